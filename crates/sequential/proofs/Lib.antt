@@ -1,0 +1,6 @@
+pub mod Keys
+pub mod Sends
+pub mod Waits
+pub mod Budget
+mod Accepts
+mod Lines
