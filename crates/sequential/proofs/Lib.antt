@@ -4,3 +4,4 @@ pub mod Waits
 pub mod Budget
 mod Accepts
 mod Lines
+mod Texts

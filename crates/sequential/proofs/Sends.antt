@@ -3,7 +3,6 @@
 use Prim.Native.Nat.{ℕ, zero, suc, _+_, _≤_, _<_}
 use mathlib.Core.Path.{_≡_, refl, sym, _∙_}
 use mathlib.Core.Bool.{Bool, true, false, cond}
-use mathlib.Core.Logic.{_⊎_, inl, inr}
 use mathlib.Core.List.{List, [], _∷_}
 use native.Mathlib.Omega.{arith}
 use lib.Dec.{ltb, leb}
@@ -91,18 +90,3 @@ applied-sends m u e q = go (m .reaction (e .process) (q .state) (e .time) (e .pa
         (λ c. record { fit = messages-fit (m .size) (u .end) e (q .count) (listed ws) f; numbered = messages-numbered (u .end) e (q .count) (listed ws); capped = λ _. leb-true _ _ c })
         (λ _. none-sent (m .size) u e (q .count)))
         (λ _. none-sent (m .size) u e (q .count))
-
--- an event that sends stays within the cap
-pub applied-room : (m : Meaning) (u : Limits) (e : Event) (q : Process) → (q .count + many (applied m u e q .sends) ≤ u .most) ⊎ (many (applied m u e q .sends) ≡ 0)
-unfolding applied
-applied-room m u e q = go (m .reaction (e .process) (q .state) (e .time) (e .payload))
-  where
-    Room : Outcome → Type 0
-    Room o = (q .count + many (o .sends) ≤ u .most) ⊎ (many (o .sends) ≡ 0)
-
-    go : (r : Reaction) → Room (reacted (m .size) u e q r)
-    go (Fault c) = inr refl
-    go (Next s ws) =
-        cond-both (isFine (flaw (m .size) (listed ws))) _ _ Room
-        (λ f. cond-both (leb (q .count + many (messagesOf (u .end) e (q .count) (listed ws))) (u .most)) _ _ Room (λ c. inl (leb-true _ _ c)) (λ _. inr refl))
-        (λ _. inr refl)

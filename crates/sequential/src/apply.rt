@@ -156,8 +156,10 @@ fn reacted(
     process: &Process,
     reaction: Reaction,
 ) -> Outcome
-    ensures { λ r. ⌜ r ≡ reactedTo size (now (limits .entry)) (now (event .entry)) (now (process .entry)) reaction ⌝ }
+    ensures value { λ r. ⌜ r ≡ reactedTo size (now (limits .entry)) (now (event .entry)) (now (process .entry)) reaction ⌝ }
+    ensures room { λ r. ⌜ now (process .entry) .count + many (r .sends) < 2 ^ 64 ⌝ }
 {
+    let capped = process.count > limits.most;
     let (state, wants) = match reaction {
         Reaction::Fault(c) => return fault(Verdict::ModelFault(c), process.state),
         Reaction::Next(state, wants) => (state, wants),
@@ -166,7 +168,7 @@ fn reacted(
         Verdict::Fine => {}
         wrong => return fault(wrong, process.state),
     }
-    if process.count > limits.most {
+    if capped {
         return fault(Verdict::OverCap, process.state);
     }
     let sends = messages(size, limits, event, process.count, &wants);
@@ -183,7 +185,7 @@ fn reacted(
 // Applies the event to its process as it stands. The model is asked once, here and nowhere else.
 pub fn apply<M: Model>(model: &M, limits: &Limits, event: &Event, process: &Process) -> Outcome
     ensures value { λ r. ⌜ r ≡ applied (M·Model .meaning (now (model .entry))) (now (limits .entry)) (now (event .entry)) (now (process .entry)) ⌝ }
-    ensures room { λ r. ⌜ (now (process .entry) .count < 2 ^ 64 → now (process .entry) .count + many (r .sends) < 2 ^ 64) ⌝ }
+    ensures room { λ r. ⌜ now (process .entry) .count + many (r .sends) < 2 ^ 64 ⌝ }
 {
     let reaction = model.react(
         event.process as u64,

@@ -4,3 +4,4 @@ pub mod apply;
 pub mod base;
 pub mod limits;
 pub mod run;
+pub mod text;

@@ -123,7 +123,7 @@ pub fn fresh_processes<M: Model>(model: &M) -> [Process; PROCESSES]
 }
 
 // The process of an event; of no process, one that has done nothing.
-fn process_of(processes: &[Process; PROCESSES], p: u8) -> Process
+pub fn process_of(processes: &[Process; PROCESSES], p: u8) -> Process
     ensures { λ r. ⌜ r ≡ getD (now (processes .entry)) p nobody ⌝ }
 {
     if (p as usize) < PROCESSES {

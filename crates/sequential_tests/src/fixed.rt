@@ -4,7 +4,6 @@ ghost use mathlib.Core.Path.{_≡_};
 ghost use Prim.Native.Nat.{ℕ, _≤_};
 ghost use Rattle.model.specs.Formulas.{zeros};
 ghost use Rattle.model.specs.declared.base.Reaction.the-variants.{Fault};
-
 use model::base::Few;
 use model::base::Model;
 use model::base::Reaction;
@@ -25,7 +24,12 @@ pub impl Model for Fixed as FixedModel {
     }
 
     fn initial(&self, process: u64) -> State {
-        State { w0: 0, w1: 0, w2: 0, w3: 0 }
+        State {
+            w0: 0,
+            w1: 0,
+            w2: 0,
+            w3: 0,
+        }
     }
 
     fn react(&self, process: u64, state: &State, time: u64, payload: u64) -> Reaction {
@@ -35,10 +39,22 @@ pub impl Model for Fixed as FixedModel {
 
 // A model that always wants these sends.
 pub fn wanting(wants: Few<Want>) -> Fixed {
-    Fixed { reaction: Reaction::Next(State { w0: 1, w1: 2, w2: 3, w3: 4 }, wants) }
+    Fixed {
+        reaction: Reaction::Next(
+            State {
+                w0: 1,
+                w1: 2,
+                w2: 3,
+                w3: 4,
+            },
+            wants,
+        ),
+    }
 }
 
 // A model that always gives its fault 9.
 pub fn faulty() -> Fixed {
-    Fixed { reaction: Reaction::Fault(9) }
+    Fixed {
+        reaction: Reaction::Fault(9),
+    }
 }

@@ -1,0 +1,3 @@
+mod Worked
+pub mod Room
+pub mod Steps

@@ -1,0 +1,3 @@
+// The Time Warp machine: its types, and what every call must do, as definitions.
+
+pub mod base;

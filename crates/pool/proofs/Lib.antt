@@ -1,0 +1,4 @@
+pub mod Laws
+pub mod Draws
+mod Keeping
+mod Stocking

@@ -1,0 +1,4 @@
+pub mod Lanes
+pub mod Calls
+pub mod Stacks
+pub mod Pools

@@ -1,0 +1,11 @@
+mod Backs
+mod Cuts
+mod Exact
+mod Figures
+mod Items
+mod Joins
+mod Leaves
+mod Readings
+mod Samples
+mod Whole
+mod Plays

@@ -1,0 +1,8 @@
+// Scripts: what their bytes mean, a reader and a writer, and running them.
+
+pub mod base;
+mod field;
+mod line;
+pub mod play;
+pub mod read;
+pub mod write;

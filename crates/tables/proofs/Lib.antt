@@ -1,0 +1,3 @@
+mod Rows
+mod Rounds
+pub mod Applied

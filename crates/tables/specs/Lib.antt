@@ -1,0 +1,4 @@
+pub mod Meaning
+pub mod Takes
+pub mod Pulls
+pub mod Posts
