@@ -38,7 +38,7 @@ abbrev pub settingFits : ℕ → ℕ → ℕ → Bool
 settingFits end most workers = endFits end && (capFits most && workersFit workers)
 
 -- what a plan holds
-pub record Holds (u : Plan) (end most workers : ℕ) (home : List ℕ) : Type 0 where
+pub record PlanHolds (u : Plan) (end most workers : ℕ) (home : List ℕ) : Type 0 where
   pub ends : u .limits .end ≡ end
   pub capped : u .limits .most ≡ most
   pub staffed : u .workers ≡ workers

@@ -6,7 +6,7 @@ ghost use mathlib.Core.Path.{_≡_};
 ghost use Prim.Native.Nat.{_<_, _≤_};
 ghost use lib.Dec.{leb};
 ghost use lib.ListN.{replicate, set};
-ghost use Rattle.executive.specs.World.{Holds, Moved, placing, settingFits};
+ghost use Rattle.executive.specs.World.{PlanHolds, Moved, placing, settingFits};
 ghost use Rattle.machine.specs.Machine.{started};
 ghost use Rattle.machine.specs.declared.base.Refusal.the-variants.{NoProcess, NoWorker, OutsideLimits};
 ghost use Rattle.std.specs.Results.{Cases};
@@ -32,7 +32,7 @@ const MOST_WORKERS: u64 = 8;
 // A plan with every process on worker 0.
 fn all_on_first(limits: Limits, workers: u8) -> Plan
     requires { ⌜ 1 ≤ workers ⌝ ∗ ⌜ workers ≤ 8 ⌝ }
-    ensures { λ r. ⌜ Holds r (limits .end) (limits .most) workers (replicate 32 0) ⌝ }
+    ensures { λ r. ⌜ PlanHolds r (limits .end) (limits .most) workers (replicate 32 0) ⌝ }
 {
     Plan {
         limits,
@@ -45,7 +45,7 @@ impl<M: Model, P: Pool> Setup<M, P> {
     // A setup of the model: end 1,000, cap 1,000, one worker, and every process on worker 0.
     pub fn fresh(model: M) -> Setup<M, P>
         ensures model { λ r. ⌜ r .model ≡ model ⌝ }
-        ensures plan { λ r. ⌜ Holds (r .plan) 1000 1000 1 (replicate 32 0) ⌝ }
+        ensures plan { λ r. ⌜ PlanHolds (r .plan) 1000 1000 1 (replicate 32 0) ⌝ }
     {
         let limits = Limits {
             end: FIRST_END,
@@ -62,7 +62,7 @@ impl<M: Model, P: Pool> Setup<M, P> {
     // Replaces end (1 to 2^40), cap (1 to 2^32 - 1) and workers (1 to 8), and puts every process on worker 0 again.
     pub fn set(&mut self, end: u64, most: u64, workers: u64) -> Result<(), Refusal>
         ensures model { λ _. ⌜ now (self .exit) .model ≡ now (self .entry) .model ⌝ }
-        ensures plan { λ r. ⌜ Cases r (λ _. (settingFits end most workers ≡ true) × Holds (now (self .exit) .plan) end most workers (replicate 32 0)) (λ e. (settingFits end most workers ≡ false) × (e ≡ OutsideLimits) × (now (self .exit) .plan ≡ now (self .entry) .plan)) ⌝ }
+        ensures plan { λ r. ⌜ Cases r (λ _. (settingFits end most workers ≡ true) × PlanHolds (now (self .exit) .plan) end most workers (replicate 32 0)) (λ e. (settingFits end most workers ≡ false) × (e ≡ OutsideLimits) × (now (self .exit) .plan ≡ now (self .entry) .plan)) ⌝ }
     {
         let Ok(limits) = Limits::new(end, most) else {
             return Err(Refusal::OutsideLimits);

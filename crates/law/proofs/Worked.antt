@@ -16,13 +16,13 @@ use Rattle.machine.specs.Calls.{World, Transcript, Drawn, Run, refusal, draws, 
 use Rattle.machine.specs.Calls.Does.{refuses, acts}
 use Rattle.machine.specs.Calls.Drawn.{none as no-lanes, one as from-lane}
 use Rattle.machine.specs.Calls.Run.{rests, goes}
-use Rattle.machine.specs.Cases.{common}
+use Rattle.pool.specs.Pools.{commonLanes, receiverLanes}
 use Rattle.machine.specs.Machine
 use Rattle.machine.specs.declared.base.Answer.the-variants.{Refused}
 use Rattle.machine.specs.declared.base.Call.{Call}
 use Rattle.machine.specs.declared.base.Call.the-variants.{Post, Absorb, Step, Round, Report, Collect}
 use Rattle.machine.specs.declared.base.Refusal.{Refusal}
-use Rattle.law.specs.Cases.{receiver, switching, switched, loading, loaded, Proper-over, Is-run-of, The-law-speaks-of-runs}
+use Rattle.law.specs.Cases.{switching, switched, loading, loaded, Proper-over, Is-run-of, The-law-speaks-of-runs}
 use Rattle.law.specs.Law.{start}
 
 -- ---- trying calls
@@ -92,27 +92,27 @@ pholdCalls a b c d e =
     (Step 0, c ∷ []) ∷ (Step 0, d ∷ []) ∷ (Absorb 1, []) ∷ (Step 1, []) ∷ (Absorb 1, []) ∷ (Step 1, []) ∷ (Step 1, e ∷ []) ∷ (Absorb 0, []) ∷
     (Round, []) ∷ (Report 0, []) ∷ (Report 1, []) ∷ (Collect 3, []) ∷ (Collect 8, []) ∷ []
 
-proper-common : Proper-over common
+proper-common : Proper-over commonLanes
 unfolding lent
 proper-common m u s = record { sized = s; full-sized = refl; none-out = refl }
 
-proper-receiver : Proper-over receiver
+proper-receiver : Proper-over receiverLanes
 unfolding lent
 proper-receiver m u s = record { sized = s; full-sized = refl; none-out = refl }
 
-switch-common : tried (switching common) (start (switching common)) (switchCalls 0 1 2) ≡ (true, switched)
+switch-common : tried (switching commonLanes) (start (switching commonLanes)) (switchCalls 0 1 2) ≡ (true, switched)
 unfolding lies applied fresh Machine.startedWith Machine.started Machine.sent Machine.freed Machine.foremost Machine.cancelled Machine.cancelledAll Machine.undone Machine.rolled Machine.enter Machine.lower Machine.arrived Machine.annihilated Machine.left Machine.reportOf Machine.told Machine.remaining Machine.absorbed Machine.sentAll Machine.steppedBy Machine.opened Machine.reported Machine.collected refusal draws does answers
 switch-common = refl
 
-switch-receiver : tried (switching receiver) (start (switching receiver)) (switchCalls 0 1 32) ≡ (true, switched)
+switch-receiver : tried (switching receiverLanes) (start (switching receiverLanes)) (switchCalls 0 1 32) ≡ (true, switched)
 unfolding lies applied fresh Machine.startedWith Machine.started Machine.sent Machine.freed Machine.foremost Machine.cancelled Machine.cancelledAll Machine.undone Machine.rolled Machine.enter Machine.lower Machine.arrived Machine.annihilated Machine.left Machine.reportOf Machine.told Machine.remaining Machine.absorbed Machine.sentAll Machine.steppedBy Machine.opened Machine.reported Machine.collected refusal draws does answers
 switch-receiver = refl
 
-phold-common : tried (loading common) (start (loading common)) (pholdCalls 0 1 2 3 4) ≡ (true, loaded)
+phold-common : tried (loading commonLanes) (start (loading commonLanes)) (pholdCalls 0 1 2 3 4) ≡ (true, loaded)
 unfolding lies applied fresh Machine.startedWith Machine.started Machine.sent Machine.freed Machine.foremost Machine.cancelled Machine.cancelledAll Machine.undone Machine.rolled Machine.enter Machine.lower Machine.arrived Machine.annihilated Machine.left Machine.reportOf Machine.told Machine.remaining Machine.absorbed Machine.sentAll Machine.steppedBy Machine.opened Machine.reported Machine.collected refusal draws does answers
 phold-common = refl
 
-phold-receiver : tried (loading receiver) (start (loading receiver)) (pholdCalls 0 1 32 33 2) ≡ (true, loaded)
+phold-receiver : tried (loading receiverLanes) (start (loading receiverLanes)) (pholdCalls 0 1 32 33 2) ≡ (true, loaded)
 unfolding lies applied fresh Machine.startedWith Machine.started Machine.sent Machine.freed Machine.foremost Machine.cancelled Machine.cancelledAll Machine.undone Machine.rolled Machine.enter Machine.lower Machine.arrived Machine.annihilated Machine.left Machine.reportOf Machine.told Machine.remaining Machine.absorbed Machine.sentAll Machine.steppedBy Machine.opened Machine.reported Machine.collected refusal draws does answers
 phold-receiver = refl
 
@@ -120,8 +120,8 @@ pub speaks : The-law-speaks-of-runs
 speaks = (
   proper-common,
   proper-receiver,
-  shown (switching common) (switchCalls 0 1 2) switched switch-common,
-  shown (switching receiver) (switchCalls 0 1 32) switched switch-receiver,
-  shown (loading common) (pholdCalls 0 1 2 3 4) loaded phold-common,
-  shown (loading receiver) (pholdCalls 0 1 32 33 2) loaded phold-receiver,
+  shown (switching commonLanes) (switchCalls 0 1 2) switched switch-common,
+  shown (switching receiverLanes) (switchCalls 0 1 32) switched switch-receiver,
+  shown (loading commonLanes) (pholdCalls 0 1 2 3 4) loaded phold-common,
+  shown (loading receiverLanes) (pholdCalls 0 1 32 33 2) loaded phold-receiver,
 )

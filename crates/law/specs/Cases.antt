@@ -7,26 +7,16 @@ use lib.ListN.{replicate}
 use Rattle.model.specs.Formulas.{switch, phold}
 use Rattle.model.specs.Meaning.{Meaning}
 use Rattle.pool.specs.Lanes.{Lanes}
-use Rattle.pool.specs.declared.base.Place.{Place}
-use Rattle.pool.specs.declared.base.Place.the-variants.{Lane}
+use Rattle.pool.specs.Pools.{commonLanes, receiverLanes}
 use Rattle.sequential.specs.Events.{outside}
 use Rattle.sequential.specs.declared.base.Verdict.the-variants.{Fine}
 use Rattle.machine.specs.Calls.{World, Transcript, Run}
-use Rattle.machine.specs.Cases.{common, plan, line, words, ends100}
+use Rattle.machine.specs.Cases.{plan, line, words, ends100}
 use Rattle.machine.specs.Machine.{Machine}
 use Rattle.machine.specs.declared.base.Answer.the-variants.{Posted, Absorbed, Stepped, Opened, Told, Collected}
 use Rattle.machine.specs.declared.base.Call.the-variants.{Post, Absorb, Step, Round, Report, Collect}
 use Rattle.machine.specs.declared.base.Plan.{Plan}
 use Rattle.law.specs.Law.{Proper, start}
-
--- 32 buffers in each of the lanes below n, in their order
-abbrev pub dealt : ℕ → List Place
-dealt zero = []
-dealt (suc n) = dealt n ++ replicate 32 (Lane n)
-
--- a lane of 32 buffers for each receiving worker
-abbrev pub receiver : Lanes
-receiver = record { draw = λ i j. j; return = λ i j. j; full = dealt 8 }
 
 abbrev pub over : Meaning → Lanes → Plan → World
 over m l u = record { model = m; lanes = l; plan = u }
@@ -82,6 +72,6 @@ loaded =
 
 abbrev pub The-law-speaks-of-runs : Type 0
 The-law-speaks-of-runs =
-    Proper-over common × Proper-over receiver ×
-    Is-run-of (switching common) switched × Is-run-of (switching receiver) switched ×
-    Is-run-of (loading common) loaded × Is-run-of (loading receiver) loaded
+    Proper-over commonLanes × Proper-over receiverLanes ×
+    Is-run-of (switching commonLanes) switched × Is-run-of (switching receiverLanes) switched ×
+    Is-run-of (loading commonLanes) loaded × Is-run-of (loading receiverLanes) loaded

@@ -9,8 +9,7 @@ use Rattle.std.proofs.shelf.Lists.{getD-replicate}
 use Rattle.std.specs.declared.option.Option.the-variants.{Some, None}
 use Rattle.model.specs.Formulas.{switch, zeros}
 use Rattle.model.specs.declared.base.State.{State}
-use Rattle.pool.specs.Lanes.{Lanes}
-use Rattle.pool.specs.declared.base.Place.the-variants.{Lane}
+use Rattle.pool.specs.Pools.{commonLanes}
 use Rattle.sequential.specs.Events.{outside}
 use Rattle.sequential.specs.declared.base.Event.{Event}
 use Rattle.sequential.specs.declared.base.Limits.{Limits}
@@ -53,16 +52,12 @@ plan end ends = record {
   housed = housed;
 }
 
--- one lane, lane 0, of all buffers
-abbrev pub common : Lanes
-common = record { draw = λ i j. 0; return = λ i j. 0; full = replicate 256 (Lane 0) }
-
 abbrev pub world : (end : ℕ) → (1 ≤ end) × (end ≤ 2 ^ 40) → World
-world end ends = record { model = switch 2 3; lanes = common; plan = plan end ends }
+world end ends = record { model = switch 2 3; lanes = commonLanes; plan = plan end ends }
 
 -- the answers to the calls up to the end, from the start
 abbrev pub answersBy : (end : ℕ) → (1 ≤ end) × (end ≤ 2 ^ 40) → List (Call × List ℕ) → List (Answer (List Line))
-answersBy end ends cs = play (world end ends) (started (switch 2 3) common (plan end ends)) cs
+answersBy end ends cs = play (world end ends) (started (switch 2 3) commonLanes (plan end ends)) cs
 
 abbrev pub line : ℕ → ℕ → ℕ → ℕ → ℕ → Verdict → State → Line
 line time process sender number payload v s =
@@ -73,6 +68,12 @@ words a b c = record { w0 = a; w1 = b; w2 = c; w3 = 0 }
 
 pub ends100 : (1 ≤ 100) × (100 ≤ 2 ^ 40)
 ends100 = (lit≤ tt, lit≤ tt)
+
+pub ends14 : (1 ≤ 14) × (14 ≤ 2 ^ 40)
+ends14 = (lit≤ tt, lit≤ tt)
+
+pub ends13 : (1 ≤ 13) × (13 ≤ 2 ^ 40)
+ends13 = (lit≤ tt, lit≤ tt)
 
 -- a late cell rolls the second port back; all three lines are collected in key order
 abbrev pub Straggler-is-collected-in-order : Type 0
@@ -86,3 +87,39 @@ Straggler-is-collected-in-order =
     line 10 0 outside 0 1 Fine (words 13 1 0) ∷
     line 13 1 0 0 0 Fine (words 16 1 0) ∷
     line 14 1 outside 1 0 Fine (words 19 2 2) ∷ []) 0 ∷ [])
+
+-- a post for an earlier time rolls two ports back, one by a notice, and both messages are annihilated
+abbrev pub Cancellation-chases-its-messages : Type 0
+Cancellation-chases-its-messages =
+    answersBy 100 ends100 (
+    (Post 0 10 2, 0 ∷ []) ∷ (Absorb 0, []) ∷ (Step 0, 1 ∷ []) ∷ (Absorb 1, []) ∷ (Step 1, 2 ∷ []) ∷ (Post 0 9 0, 3 ∷ []) ∷
+    (Absorb 0, []) ∷ (Absorb 0, []) ∷ (Absorb 1, []) ∷ (Absorb 0, []) ∷ [])
+    ≡ (Posted 0 ∷ Absorbed 0 0 0 ∷ Stepped 10 0 1 ∷ Absorbed 0 0 0 ∷ Stepped 13 1 1 ∷ Posted 1 ∷
+    Absorbed 0 0 0 ∷ Absorbed 0 1 1 ∷ Absorbed 1 1 1 ∷ Absorbed 1 0 0 ∷ [])
+
+-- a message sent while a round is open holds GVT at its time; a post before GVT is refused, and one at GVT is accepted
+abbrev pub Floors-hold-GVT : Type 0
+Floors-hold-GVT =
+    answersBy 100 ends100 (
+    (Post 0 10 1, 0 ∷ []) ∷ (Absorb 0, []) ∷ (Round, []) ∷ (Report 1, []) ∷ (Step 0, 1 ∷ []) ∷ (Report 0, []) ∷
+    (Post 0 12 0, 2 ∷ []) ∷ (Post 0 13 0, 2 ∷ []) ∷ [])
+    ≡ (Posted 0 ∷ Absorbed 0 0 0 ∷ Opened 2 ∷ Told 1 0 ∷ Stepped 10 0 1 ∷ Told 0 13 ∷ Refused BeforeGvt ∷ Posted 1 ∷ [])
+
+-- a message due at the end is struck out, and one due just before it is sent
+abbrev pub The-end-strikes-at-its-edge : Type 0
+The-end-strikes-at-its-edge =
+    (answersBy 13 ends13 ((Post 0 10 1, 0 ∷ []) ∷ (Absorb 0, []) ∷ (Step 0, []) ∷ []) ≡ (Posted 0 ∷ Absorbed 0 0 0 ∷ Stepped 10 0 0 ∷ []))
+    × (answersBy 14 ends14 ((Post 0 10 1, 0 ∷ []) ∷ (Absorb 0, []) ∷ (Step 0, 1 ∷ []) ∷ []) ≡ (Posted 0 ∷ Absorbed 0 0 0 ∷ Stepped 10 0 1 ∷ []))
+
+-- a cell with too many hops is the model's fault 2, and leaves zero words
+abbrev pub A-fault-is-a-line : Type 0
+A-fault-is-a-line =
+    answersBy 100 ends100 (
+    (Post 0 10 256, 0 ∷ []) ∷ (Absorb 0, []) ∷ (Step 0, []) ∷ (Round, []) ∷ (Report 0, []) ∷ (Report 1, []) ∷ (Collect 1, []) ∷ [])
+    ≡ (Posted 0 ∷ Absorbed 0 0 0 ∷ Stepped 10 0 0 ∷ Opened 2 ∷ Told 1 0 ∷ Told 0 100 ∷
+    Collected (line 10 0 outside 0 256 (ModelFault 2) zeros ∷ []) 0 ∷ [])
+
+-- the eight cases: a straggler, chased cancellations, a floor that holds GVT with a post before it and one at it, the end at both sides of its edge, a fault
+abbrev pub The-worked-cases-hold : Type 0
+The-worked-cases-hold =
+    Straggler-is-collected-in-order × Cancellation-chases-its-messages × Floors-hold-GVT × The-end-strikes-at-its-edge × A-fault-is-a-line

@@ -1,3 +1,4 @@
 // The Time Warp machine: its types, and what every call must do, as definitions.
 
 pub mod base;
+pub mod numbers;

@@ -23,7 +23,7 @@ use Rattle.machine.specs.Calls.{Does, Run, Transcript, World}
 use Rattle.machine.specs.Calls.Run.{rests}
 use Rattle.law.specs.Law.{Proper, callsOf, collectedLines, linesTold, start}
 use Rattle.law.proofs.Offered.{run-push}
-use Rattle.executive.specs.World.{Holds, Lent, Moved, placing, settingFits, worldOf}
+use Rattle.executive.specs.World.{PlanHolds, Lent, Moved, placing, settingFits, worldOf}
 use Rattle.executive.proofs.Offers.{lent-in-runs}
 use Rattle.pool.specs.Lanes.{Lanes}
 use Rattle.pool.specs.declared.base.Place.{Place as Spot}
@@ -108,7 +108,7 @@ went-item m l u P t t′ pl pl′ is i d lt text text₁ text₂ so-far (Place p
 went-item m l u P t t′ pl pl′ is i d lt text text₁ text₂ so-far (Make c) k played = went-call (worldOf m l u) P is i d lt text text₁ text₂ _ _ so-far c (played .0) k (played .1) (played .2)
 
 pub plays-sits : (m : Meaning) (l : Lanes) (h : Heading) (items : List Item) (bad : Option ℕ) (text : List ℕ) (u : Plan) → settingFits (h .end) (h .most) (h .workers) ≡ true → isThird bad ≡ false →
-    Holds u (h .end) (h .most) (h .workers) (replicate 32 0) → Session m l u items bad text → Plays m l h items bad text
+    PlanHolds u (h .end) (h .most) (h .workers) (replicate 32 0) → Session m l u items bad text → Plays m l h items bad text
 plays-sits m l h items bad text u fits second holds session =
     subst (λ b. By b (By (isThird bad) (text ≡ badText 3) (Sits m l h items bad text)) (text ≡ badText 2)) (sym fits)
     (subst (λ b. By b (text ≡ badText 3) (Sits m l h items bad text)) (sym second) (u, holds, session))

@@ -21,7 +21,7 @@ use Rattle.machine.specs.declared.base.Refusal.{Refusal}
 use Rattle.machine.specs.Machine.{Machine}
 use Rattle.machine.specs.Calls.{Run, Transcript}
 use Rattle.law.specs.Law as law
-use Rattle.executive.specs.World.{Holds, Moved, placing, settingFits, worldOf}
+use Rattle.executive.specs.World.{PlanHolds, Moved, placing, settingFits, worldOf}
 use Rattle.script.specs.declared.base.Heading.{Heading}
 use Rattle.script.specs.declared.base.Item.{Item}
 use Rattle.script.specs.declared.base.Item.the-variants.{Place, Make}
@@ -80,7 +80,7 @@ pub record Session (m : Meaning) (l : Lanes) (u : Plan) (items : List Item) (bad
 
 -- the same of a setup to the heading's values, with every process on worker 0
 abbrev pub Sits : Meaning → Lanes → Heading → List Item → Option ℕ → List ℕ → Type 0
-Sits m l h items bad text = (u : Plan) × Holds u (h .end) (h .most) (h .workers) (replicate 32 0) × Session m l u items bad text
+Sits m l h items bad text = (u : Plan) × PlanHolds u (h .end) (h .most) (h .workers) (replicate 32 0) × Session m l u items bad text
 
 -- whether the third line is bad
 abbrev pub isThird : Option ℕ → Bool

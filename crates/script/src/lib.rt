@@ -2,6 +2,7 @@
 
 pub mod base;
 mod field;
+pub mod input;
 mod line;
 pub mod play;
 pub mod read;
