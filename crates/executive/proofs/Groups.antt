@@ -2,6 +2,7 @@
 use Prim.Native.Nat.{ℕ, zero, suc, _+_, _≤_, _<_}
 use mathlib.Core.Bool.{Bool, true, false, cond}
 use mathlib.Core.List.{List, [], _∷_, _++_}
+use mathlib.Core.Logic.{_⊎_}
 use mathlib.Core.Path.{_≡_, refl, sym, ap, subst, _∙_}
 use native.Mathlib.Omega.{arith}
 use lib.ListN.{getD, length}
@@ -75,8 +76,8 @@ module _ (W : World) (P : Proper W) where
       let a = run-split q ((Collect k, Collected ls n) ∷ q′) (subst (λ t. Run W (start W) t s) e R) in
       go (a .1) (a .2)
     where
-      go : {s₁ s₂ : Machine} → Run W (start W) q s₁ → Run W s₁ ((Collect k, Collected ls n) ∷ q′) s₂ → (t : Machine) × Run W (start W) (q ++ (Collect k, Collected ls n) ∷ []) t × (n + length (collectedLines q ++ ls) ≡ before (t .gvt) (run (W .model) (W .plan .limits) (posts q)))
-      go {s₁ = s₁} Q (goes {s₁ = t} d _) = (t, run-push Q d, remains W P q k n ls s₁ t Q d .0)
+      go : {s₁ s₂ : Machine} → Run W (start W) q s₁ → Run W s₁ ((Collect k, Collected ls n) ∷ q′) s₂ → (t : Machine) × Run W (start W) (q ++ (Collect k, Collected ls n) ∷ []) t × (n + length (collectedLines q ++ ls) ≡ before (t .gvt) (run (W .model) (W .plan .limits) (posts q))) × ((n ≡ 0) ⊎ (length ls ≡ k))
+      go {s₁ = s₁} Q (goes {s₁ = t} d _) = (t, run-push Q d, remains W P q k n ls s₁ t Q d .0, remains W P q k n ls s₁ t Q d .1)
 
   begins : (s : Machine) → s ≡ start W → Run W (start W) [] s
   begins s e = subst (λ t. Run W (start W) [] t) (sym e) rests

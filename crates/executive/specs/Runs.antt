@@ -3,6 +3,7 @@ use Prim.Native.Nat.{ℕ, _+_, _≤_}
 use mathlib.Core.Path.{_≡_}
 use mathlib.Core.Bool.{Bool, true, false}
 use mathlib.Core.List.{List, [], _∷_, _++_}
+use mathlib.Core.Logic.{_⊎_}
 use lib.ListN.{length}
 use Rattle.std.specs.Of.Vec.{vec-items}
 use Rattle.std.specs.declared.alloc.Global.{Global}
@@ -60,12 +61,13 @@ abbrev pub told : List Call → Group → Transcript
 told cs g = transcriptOf cs (vec-items (g .answers))
 
 -- a collection, wherever it stands in the transcript, told how many lines of the sequential run of the posts accepted until then
--- were earlier than GVT and not collected
+-- were earlier than GVT and not collected; and it handed out as many as were asked for, unless none remained
 abbrev pub Remains : World → Transcript → Type 0
 Remains W r =
     (q q′ : Transcript) (k n : ℕ) (ls : List Line) → r ≡ q ++ ((Collect k, Collected ls n) ∷ q′) →
     (s : Machine) × Run W (start W) (q ++ (Collect k, Collected ls n) ∷ []) s
     × (n + length (collectedLines q ++ ls) ≡ before (s .gvt) (run (W .model) (W .plan .limits) (posts q)))
+    × ((n ≡ 0) ⊎ (length ls ≡ k))
 
 -- what two groups of calls, made one after the other from the start, keep
 pub record Lawful-groups (W : World) (cs₁ cs₂ : List Call) (g₁ g₂ : Group) : Type 0 where

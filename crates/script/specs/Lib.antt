@@ -4,3 +4,4 @@ pub mod Reading
 pub mod Writing
 pub mod Playing
 pub mod Play
+pub mod Case

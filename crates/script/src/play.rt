@@ -7,6 +7,7 @@ ghost use Rattle.executive.specs.Runs.{answerOf};
 ghost use Rattle.executive.specs.World.{Lent, Makes};
 ghost use Rattle.law.specs.Law.{linesTold};
 ghost use Rattle.machine.specs.declared.base.Answer.{Answer as Reply};
+ghost use Rattle.script.specs.Case.{The-first-case-is-read-and-written-so};
 ghost use Rattle.script.specs.Play.{Played, PlayedAll};
 ghost use Rattle.script.specs.Playing.{Heads, PlacedBy, Plays, Prints, Session, Settles, badText, endText, isThird, lanesOf};
 ghost use Rattle.sequential.specs.Text.{fieldNames, lineText};
@@ -266,4 +267,11 @@ pub fn run_script(heap: Global, bytes: &[u8]) -> Result<String, AllocError>
             Ok(text)
         }
     }
+}
+
+// The first worked case, as a script and as text.
+pub fn the_first_case_is_read_and_written_so() -> u8
+    ensures { λ _. ⌜ The-first-case-is-read-and-written-so ⌝ }
+{
+    0
 }
