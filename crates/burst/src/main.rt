@@ -1,5 +1,7 @@
 // A burst of cells through a switch of four ports: the lines of the run, and what a planner asks of them.
 
+#![tactic(auto)]
+
 use anyhow::anyhow;
 use model::switch::Switch;
 use sequential::base::{Limits, Line, Post, Verdict};

@@ -1,5 +1,7 @@
 // Runs the stored scripts, readable and spoiled, compares what they print with what they should, and says how many agree.
 
+#![tactic(auto)]
+
 use script::play::run_script;
 use std::fs;
 

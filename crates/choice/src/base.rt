@@ -46,7 +46,7 @@ fn better<C: Choice>(
 ) -> Option<u8>
     requires placed { Placed records.now }
     requires mirrored { Mirrored phases.now records.now }
-    ensures { result ≡ bettered (passes (ok choice.now)) (before choice.now) records.now i best }
+    ensures { result ≡ bettered (passes (C.ok choice.now)) (C.before choice.now) records.now i best }
 {
     if !choice.fits(phases[i as usize], &records[i as usize].event) {
         return best;
@@ -86,7 +86,7 @@ fn better_of<C: Choice>(
     requires placed { Placed records.now }
     requires mirrored { Mirrored phases.now records.now }
     requires inside { i + 16 ≤ 256 }
-    ensures { left (passes (ok choice.now)) (before choice.now) records.now (i + 16) result ≡ left (passes (ok choice.now)) (before choice.now) records.now i so_far }
+    ensures { left (passes (C.ok choice.now)) (C.before choice.now) records.now (i + 16) result ≡ left (passes (C.ok choice.now)) (C.before choice.now) records.now i so_far }
 {
     let phase = choice.phase();
     let has = has_phase(phases, i, phase);
@@ -108,7 +108,7 @@ pub fn foremost<C: Choice>(
 ) -> Option<u8>
     requires placed { Placed records.now }
     requires mirrored { Mirrored phases.now records.now }
-    ensures { result ≡ chosen (passes (ok choice.now)) (before choice.now) records.now 0 None no_event }
+    ensures { result ≡ chosen (passes (C.ok choice.now)) (C.before choice.now) records.now 0 None no_event }
 {
     let mut best = None;
     for j in 0..16usize {
@@ -122,7 +122,7 @@ fn count_of<C: Choice>(choice: &C, phases: &[Phase; 256], records: &[Message; 25
     requires placed { Placed records.now }
     requires mirrored { Mirrored phases.now records.now }
     requires inside { i + 16 ≤ 256 }
-    ensures sum { result + counted (passes (ok choice.now)) (drop (i + 16) records.now) ≡ counted (passes (ok choice.now)) (drop i records.now) }
+    ensures sum { result + counted (passes (C.ok choice.now)) (drop (i + 16) records.now) ≡ counted (passes (C.ok choice.now)) (drop i records.now) }
     ensures few { result ≤ 16 }
 {
     let phase = choice.phase();
@@ -143,7 +143,7 @@ fn count_of<C: Choice>(choice: &C, phases: &[Phase; 256], records: &[Message; 25
 pub fn count<C: Choice>(choice: &C, phases: &[Phase; 256], records: &[Message; 256]) -> u16
     requires placed { Placed records.now }
     requires mirrored { Mirrored phases.now records.now }
-    ensures { result ≡ counted (passes (ok choice.now)) records.now }
+    ensures { result ≡ counted (passes (C.ok choice.now)) records.now }
 {
     let mut n = 0u16;
     for j in 0..16usize {
@@ -163,7 +163,7 @@ fn least_of<C: Choice>(
     requires placed { Placed records.now }
     requires mirrored { Mirrored phases.now records.now }
     requires inside { i + 16 ≤ 256 }
-    ensures { least_time (passes (ok choice.now)) (drop (i + 16) records.now) result ≡ least_time (passes (ok choice.now)) (drop i records.now) t }
+    ensures { least_time (passes (C.ok choice.now)) (drop (i + 16) records.now) result ≡ least_time (passes (C.ok choice.now)) (drop i records.now) t }
 {
     let phase = choice.phase();
     let has = has_phase(phases, i, phase);
@@ -188,7 +188,7 @@ pub fn least_time<C: Choice>(
 ) -> u64
     requires placed { Placed records.now }
     requires mirrored { Mirrored phases.now records.now }
-    ensures { result ≡ least_time (passes (ok choice.now)) records.now t }
+    ensures { result ≡ least_time (passes (C.ok choice.now)) records.now t }
 {
     let mut least = t;
     for j in 0..16usize {

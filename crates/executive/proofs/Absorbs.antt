@@ -1,5 +1,5 @@
 -- An absorption: refused where the inbox is empty, else as the machine absorbs.
-use Rattle.std.proofs.Common.{◌≡◌, ℕ, ◌<◌, true, false, [], is_some, None, sym, ap, ◌∙◌}
+use Rattle.std.proofs.Common.{◌≡◌, ℕ, ◌<◌, true, [], is_some, None, ap}
 use Rattle.machine.specs.declared.base.Answer.TheVariants.{Absorbed, Refused}
 use Rattle.machine.specs.declared.base.Call.TheVariants.{Absorb}
 use Rattle.machine.specs.declared.base.Refusal.TheVariants.{InboxEmpty}

@@ -1,9 +1,9 @@
 -- Collecting line by line: each line's buffer is out and returns to the pool, and the rest of the caller's list is kept.
-use Rattle.std.proofs.Common.{◌≡◌, ℕ, zero, suc, ◌+◌, ◌<◌, ◌≤◌, Bool, true, false, ◌&&◌, ◌≢◌, List, [], ◌∷◌, ◌++◌, length, get_or, drop, set, Some, None, sym, refl, ap, ◌∙◌, subst, inl, inr, arith, drop-drop, drop-set-lt}
+use Rattle.std.proofs.Common.{◌≡◌, ℕ, zero, suc, ◌+◌, Bool, true, ◌&&◌, List, [], ◌∷◌, get_or, drop, set, Some, sym, refl, ap, ◌∙◌, subst, inl, inr, arith, drop-drop, drop-set-lt}
 use Rattle.std.proofs.lemmas.Bool.{both_ways, cases_eq}
 use Rattle.std.proofs.lemmas.List.{get_or-set_other}
 use Rattle.std.proofs.lemmas.Bool.Decides.{nat_tests}
-use Rattle.pool.specs.Lanes.{Lanes, place_at}
+use Rattle.pool.specs.Lanes.{Lanes}
 use Rattle.pool.specs.declared.base.Place.TheVariants.{Out}
 use Rattle.sequential.specs.declared.base.Line.{Line}
 use Rattle.machine.specs.declared.base.Answer.TheVariants.{Collected as Gathered}

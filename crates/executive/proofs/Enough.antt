@@ -1,12 +1,12 @@
 -- Drawing for a call: a lane with no buffer is short, and a buffer that lay in its lane was drawn from it.
-use Rattle.std.proofs.Common.{◌≡◌, ℕ, zero, suc, ◌+◌, ◌<◌, ◌≤◌, Bool, true, false, cond, not, eqb, leb, ◌≢◌, List, [], ◌∷◌, length, get_or, set, sym, refl, ap, ◌∙◌, inl, inr, arith}
+use Rattle.std.proofs.Common.{◌≡◌, ℕ, ◌<◌, ◌≤◌, true, false, ◌≢◌, List, [], ◌∷◌, length, set, ap, inl, inr, arith}
 use Rattle.std.proofs.lemmas.Bool.{cases_eq}
 use Rattle.std.proofs.lemmas.Bool.Decides.{nat_tests}
 use Rattle.pool.specs.Lanes.{lies, place_at}
 use Rattle.pool.specs.declared.base.Place.{Place}
 use Rattle.pool.specs.declared.base.Place.TheVariants.{Out, Lane}
-use Rattle.pool.specs.Laws.{held, lies_drawn, lies_drawn_other}
-use Rattle.machine.specs.Calls.{Drawn, asked, enough}
+use Rattle.pool.specs.Laws.{held, lies-draw, lies-draw_other}
+use Rattle.machine.specs.Calls.{Drawn, enough}
 use Rattle.machine.specs.Calls.Drawn.{none, one}
 
 module _ (pl : List Place) (l : ℕ) where
@@ -24,8 +24,8 @@ module _ (pl : List Place) (l : ℕ) where
     -- with the first drawn, a second lane that is then empty had too few
     pub two_short : lies k (set pl b Out) ≡ 0 → enough pl (l ∷ k ∷ []) (l ∷ k ∷ []) ≡ false
     two_short z = elim (cases_eq k l) [
-      | inl e ↦ let d = lies_drawn l pl b within h in let q = ap (λ x. lies x (set pl b Out)) e in same e (omega arith)
-      | inr n ↦ let d = lies_drawn_other l k pl b within h n in other (omega arith)
+      | inl e ↦ let d = lies-draw l pl b within h in let q = ap (λ x. lies x (set pl b Out)) e in same e (omega arith)
+      | inr n ↦ let d = lies-draw_other l k pl b within h n in other (omega arith)
     ]
       where
         same : k ≡ l → lies l pl ≡ 1 → enough pl (l ∷ k ∷ []) (l ∷ k ∷ []) ≡ false
@@ -39,8 +39,8 @@ module _ (pl : List Place) (l : ℕ) where
         let f = held l pl b within h in
         let s = held k (set pl b Out) a i j in
         elim (cases_eq k l) [
-          | inl e ↦ let d = lies_drawn l pl b within h in let q = ap (λ x. lies x (set pl b Out)) e in same e (omega arith)
-          | inr n ↦ let d = lies_drawn_other l k pl b within h n in other n f (omega arith)
+          | inl e ↦ let d = lies-draw l pl b within h in let q = ap (λ x. lies x (set pl b Out)) e in same e (omega arith)
+          | inr n ↦ let d = lies-draw_other l k pl b within h n in other n f (omega arith)
         ]
       where
         same : k ≡ l → 2 ≤ lies l pl → enough pl (l ∷ k ∷ []) (l ∷ k ∷ []) ≡ true

@@ -1,13 +1,12 @@
 -- Drawing for none, one or two messages: what the grants of the pool add up to.
-use Rattle.std.proofs.Common.{◌≡◌, ℕ, ◌<◌, true, false, List, [], ◌∷◌, length, set, Some, None, sym, refl, ap, ◌∙◌, subst, arith}
-use Rattle.std.proofs.lemmas.List.{length-set}
+use Rattle.std.proofs.Common.{◌≡◌, ℕ, ◌<◌, List, length, set, Some, None, sym, refl, ap, ◌∙◌, subst}
 use Rattle.model.specs.declared.base.Few.{Few}
 use Rattle.model.specs.declared.base.Few.TheVariants.{Nothing, One, Two}
 use Rattle.pool.specs.Calls.{handed_in}
 use Rattle.pool.specs.Lanes.{Lanes, lies, place_at}
 use Rattle.pool.specs.declared.base.Place.{Place}
 use Rattle.pool.specs.declared.base.Place.TheVariants.{Out, Lane}
-use Rattle.pool.specs.Laws.{held, undone}
+use Rattle.pool.specs.Laws.{held, hand_back-draw}
 use Rattle.pool.proofs.Draws.{handed, set_out_at}
 use Rattle.sequential.specs.declared.base.Event.{Event}
 use Rattle.machine.specs.declared.base.Plan.{Plan}
@@ -44,5 +43,5 @@ module _ (l : Lanes) (u : Plan) (w : ℕ) (pl : List Place) where
         let z : lies (l.draw w (home u f.process)) (set pl b Out) ≡ 0 = subst (λ x. lies (l.draw w x) (set pl b Out) ≡ 0) is_k (subst (λ x. lies (l.draw w k) x ≡ 0) after empty) in
         let p : pl₂ ≡ set pl b Out = kept ∙ after in
         let o : place_at pl₂ b ≡ Out = subst (λ x. place_at x b ≡ Out) (sym p) (set_out_at pl b) in
-        let r : pl₃ ≡ pl = back ∙ (handed (l.draw w h) w h b pl₂ (is_pair_lem w h w_low h_low) o).1 ∙ ap (λ x. set x b (Lane (l.draw w h))) p ∙ undone (l.draw w h) pl b lane in
+        let r : pl₃ ≡ pl = back ∙ (handed (l.draw w h) w h b pl₂ (is_pair_lem w h w_low h_low) o).1 ∙ ap (λ x. set x b (Lane (l.draw w h))) p ∙ hand_back-draw (l.draw w h) pl b lane in
         rw q (two_short pl _ _ b within lane₁ z, r)

@@ -1,24 +1,21 @@
 -- The law on what groups of calls return.
-use Rattle.std.proofs.Common.{◌≡◌, ℕ, zero, suc, ◌+◌, ◌<◌, ◌≤◌, Bool, true, false, cond, ◌⊎◌, List, [], ◌∷◌, ◌++◌, length, get_or, vec_items, count_by, sym, refl, ap, ◌∙◌, subst, arith}
+use Rattle.std.proofs.Common.{◌≡◌, ℕ, suc, ◌+◌, ◌<◌, Bool, true, false, cond, ◌⊎◌, List, [], ◌∷◌, ◌++◌, length, get_or, vec_items, count_by, sym, refl, ap, ◌∙◌, subst, arith}
 use Rattle.std.proofs.lemmas.List.Sums.{sum_by-cons}
 use Rattle.choice.specs.Turn.{Mirrored}
 use Rattle.pool.specs.Lanes.{is_out, lent, place_at}
 use Rattle.pool.specs.declared.base.Place.{Place}
-use Rattle.pool.specs.declared.base.Place.TheVariants.{Out, Lane}
-use Rattle.sequential.specs.declared.base.Line.{Line}
 use Rattle.machine.specs.declared.base.Answer.TheVariants.{Collected}
 use Rattle.machine.specs.declared.base.Call.{Call}
 use Rattle.machine.specs.declared.base.Call.TheVariants.{Collect}
-use Rattle.machine.specs.declared.base.Message.{Message}
 use Rattle.machine.specs.declared.base.Phase.{Phase}
 use Rattle.machine.specs.declared.base.Phase.TheVariants.{Free, Transit, Pending, Done}
-use Rattle.machine.specs.Machine.{Machine, at, blank}
-use Rattle.machine.specs.Calls.{World, Transcript, Does, Run}
+use Rattle.machine.specs.Machine.{Machine, at}
+use Rattle.machine.specs.Calls.{World, Transcript, Run}
 use Rattle.machine.specs.Calls.Run.{rests, goes}
 use Rattle.law.specs.Law.{Proper, before, collected_lines, posts, start}
 use Rattle.sequential.specs.Run.{run}
 use Rattle.law.proofs.Invariant.{is_live}
-use Rattle.law.proofs.Law.{law, gvt_never_falls, lawful}
+use Rattle.law.proofs.Law.{law, gvt_never_falls}
 use Rattle.law.proofs.Offered.{placed, Run-push, sizes}
 use Rattle.law.proofs.Remain.{remains}
 use Rattle.law.proofs.Runs.{Run-append}

@@ -1,5 +1,5 @@
 -- What the law of runs gives the calls: in every machine of a run the buffers that calls return are out of the pool.
-use Rattle.std.proofs.Common.{◌≡◌, ℕ, zero, suc, ◌+◌, ◌<◌, ◌≤◌, true, false, List, [], ◌∷◌, ◌++◌, length, get_or, take, Some, None, Vec, sym, refl, ap, subst, inl, add-one, arith}
+use Rattle.std.proofs.Common.{◌≡◌, ℕ, zero, suc, ◌+◌, ◌<◌, ◌≤◌, true, List, [], ◌∷◌, ◌++◌, length, get_or, take, Some, Vec, sym, refl, ap, subst, inl, add-one, arith}
 use Rattle.std.proofs.lemmas.Bool.{both_ways}
 use Rattle.machine.specs.declared.base.Phase.{Phase}
 use Rattle.machine.specs.declared.base.Phase.TheVariants.{Free, Transit, Pending, Done}

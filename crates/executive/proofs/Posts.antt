@@ -1,8 +1,7 @@
 -- A post, once its process, its time and its number fit: refused where its draw lane is empty, else sent into the buffer drawn.
-use Rattle.std.proofs.Common.{◌≡◌, ℕ, ◌+◌, ◌<◌, ◌≤◌, min, true, false, not, ◌≢◌, List, [], ◌∷◌, length, set, sym, refl, ap, ◌∙◌, subst}
+use Rattle.std.proofs.Common.{◌≡◌, ℕ, ◌+◌, ◌<◌, ◌≤◌, min, true, false, not, ◌≢◌, [], ◌∷◌, length, ap, subst}
 use Rattle.pool.specs.Lanes.{lies, place_at}
-use Rattle.pool.specs.declared.base.Place.{Place}
-use Rattle.pool.specs.declared.base.Place.TheVariants.{Out, Lane}
+use Rattle.pool.specs.declared.base.Place.TheVariants.{Lane}
 use Rattle.pool.specs.Laws.{held}
 use Rattle.machine.specs.declared.base.Answer.TheVariants.{Posted, Refused}
 use Rattle.machine.specs.declared.base.Call.TheVariants.{Post}

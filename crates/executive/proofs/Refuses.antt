@@ -1,11 +1,10 @@
 -- Each row of refusals, from the tests that were made: the rows above it did not fit, and it does.
 use Rattle.std.proofs.Common.{◌≡◌, ℕ, ◌<◌, ◌≤◌, true, false, ◌≢◌, is_some, Some, None, arith}
 use Rattle.std.proofs.lemmas.Bool.Decides.{nat_tests}
-use Rattle.pool.specs.Lanes.{lies}
 use Rattle.machine.specs.declared.base.Call.TheVariants.{Post, Absorb, Step, Round, Report}
 use Rattle.machine.specs.declared.base.Refusal.TheVariants.{NoProcess, NoWorker, BeforeGvt, PastEnd, CapReached, LaneShort, InboxEmpty, NothingPending, RoundOpen, NoRound, Reported}
 use Rattle.machine.specs.Machine.{Machine, worker, first, next}
-use Rattle.machine.specs.Calls.{World, refusal, draws, enough, post_lane, short}
+use Rattle.machine.specs.Calls.{World, refusal, short}
 
 module _ (W : World) (s : Machine) where
   module _ (p t x : ℕ) where

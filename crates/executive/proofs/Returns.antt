@@ -1,11 +1,10 @@
 -- Returning a buffer to the pool: one that is out goes into the return lane of the pair that its message was drawn for.
-use Rattle.std.proofs.Common.{◌≡◌, ℕ, ◌<◌, true, leb, List, set, sym, ap, ◌∙◌, subst, arith}
-use Rattle.std.proofs.lemmas.Bool.{le-leb}
+use Rattle.std.proofs.Common.{◌≡◌, ℕ, ◌<◌, true, List, set, ◌∙◌, arith}
 use Rattle.std.proofs.lemmas.Bool.Decides.{nat_tests}
 use Rattle.pool.specs.Calls.{handed_in}
 use Rattle.pool.specs.Lanes.{Lanes, is_pair, place_at}
 use Rattle.pool.specs.declared.base.Place.{Place}
-use Rattle.pool.specs.declared.base.Place.TheVariants.{Out, Lane}
+use Rattle.pool.specs.declared.base.Place.TheVariants.{Out}
 use Rattle.pool.proofs.Draws.{handed}
 use Rattle.sequential.specs.declared.base.Event.{Event}
 use Rattle.machine.specs.declared.base.Plan.{Plan}

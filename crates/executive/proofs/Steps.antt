@@ -1,5 +1,5 @@
 -- A step: refused where a lane is short or nothing is pending, else the least pending event is applied.
-use Rattle.std.proofs.Common.{◌≡◌, ℕ, ◌<◌, true, false, not, List, [], ◌∷◌, get_or, is_some, Some, None, sym, refl, ap, ◌∙◌, subst}
+use Rattle.std.proofs.Common.{◌≡◌, ℕ, ◌<◌, true, false, not, List, [], get_or, is_some, Some, None, sym, refl, ap, ◌∙◌, subst}
 use Rattle.model.specs.Meaning.{Meaning, listed, many}
 use Rattle.model.specs.declared.base.Few.{Few}
 use Rattle.model.specs.declared.base.Few.TheVariants.{Nothing, One, Two}
@@ -12,7 +12,7 @@ use Rattle.machine.specs.declared.base.Answer.TheVariants.{Stepped, Refused}
 use Rattle.machine.specs.declared.base.Call.TheVariants.{Step}
 use Rattle.machine.specs.declared.base.Refusal.TheVariants.{LaneShort, NothingPending}
 use Rattle.machine.specs.Machine.{Machine, at, doing, few, next, stepped_by}
-use Rattle.machine.specs.Calls.{World, Drawn, Does, draws, does, answers, enough, lanes_of, short}
+use Rattle.machine.specs.Calls.{World, Drawn, Does, draws, does, answers, enough, lanes_of}
 use Rattle.executive.proofs.Does.{refused, acted}
 use Rattle.executive.proofs.Refuses.{refusal-step_short, refusal-step_idle, refusal-step_fits}
 

@@ -1,5 +1,5 @@
 -- The world that an executive runs in, and what its setup says of the plan.
-use Rattle.std.specs.Prelude.{◌≡◌, ℕ, ◌+◌, ◌<◌, ◌≤◌, Bool, true, ◌&&◌, List, [], ◌∷◌, set, Some, Ok, Err, Option, Result, nat_le, slice_set}
+use Rattle.std.specs.Prelude.{◌≡◌, ℕ, Bool, true, ◌&&◌, List, [], ◌∷◌, Some, Ok, Err, Option, Result, nat_le, slice_set}
 use Rattle.model.specs.Meaning.{Meaning}
 use Rattle.pool.specs.Lanes.{Lanes, place_at}
 use Rattle.pool.specs.declared.base.Place.{Place}

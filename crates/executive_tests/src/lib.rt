@@ -1,5 +1,7 @@
 // Tests of the executive: setting up, every refusal, buffers, collecting, and runs beside the sequential run.
 
+#![tactic(auto)]
+
 #[cfg(test)]
 mod buffers;
 #[cfg(test)]

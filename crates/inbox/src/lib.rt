@@ -1,5 +1,7 @@
 // Inboxes: first in, first out.
 
+#![tactic(auto)]
+
 ghost use Rattle.std.specs.Prelude.{◌≡◌, ◌<◌, [], length, slice_index};
 ghost use Rattle.inbox.specs.Queue.{queue, entered, first, rest};
 

@@ -2,7 +2,7 @@
 use Rattle.std.proofs.Common.{◌≡◌, ℕ, true, false, List, [], ◌∷◌, Some, None, Option, sym, refl, ap, ◌∙◌, subst, inl, inr, arith}
 use Rattle.std.proofs.lemmas.Bool.{cases_Bool}
 use Rattle.pool.specs.Lanes.{Lanes}
-use Rattle.machine.specs.Machine.{Machine, Worker, Absorption, absorbed_to, first, past, at, worker, is_done, waiting, with_message, left, freed, cancelled, undone, rollback, arrived, annihilated, absorbed}
+use Rattle.machine.specs.Machine.{Machine, Worker, Absorption, absorbed_to, first, past, at, worker, is_done, waiting, with_message, left, freed, rollback, arrived, annihilated, absorbed}
 use Rattle.machine.specs.declared.base.Message.{Message}
 use Rattle.machine.specs.declared.base.Plan.{Plan}
 use Rattle.law.proofs.Alike.{first_map, carried, renamed, Alike, worker_there, Alike-message, Alike-left, Alike-freed}

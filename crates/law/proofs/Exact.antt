@@ -4,7 +4,7 @@
 use Rattle.std.proofs.Common.{◌≡◌, ℕ, zero, suc, ◌+◌, ◌<◌, min, Bool, true, false, ◌⊎◌, List, [], ◌∷◌, ◌++◌, length, get_or, Some, None, Option, sym, refl, ap, ◌∙◌, subst, inl, inr, arith}
 use Rattle.std.proofs.lemmas.List.{get_or-set_same, get_or-set_other}
 use Rattle.std.proofs.lemmas.Bool.{cases_eq, cases_lt, both_ways, true≢false}
-use Rattle.std.specs.List.{AllByRecursion as All}
+use Rattle.std.specs.List.{AllByRecursion}
 use Rattle.model.specs.Meaning.{listed}
 use Rattle.sequential.proofs.Budget.{all_among}
 use Rattle.sequential.proofs.Sends.{Fits, applied-sends}
@@ -191,7 +191,7 @@ module _ (W : World) (P : Proper W) where
 
 -- ---- the whole run is earlier than the end
 
-lines_early : (W : World) (k : ℕ) (ps : List Process) (ws : List Event) → ((e : Event) → Among e ws → e.time < W.plan.limits.end) → All (λ (x : Line). x.event.time < W.plan.limits.end) (run_lines W.model W.plan.limits k ps ws)
+lines_early : (W : World) (k : ℕ) (ps : List Process) (ws : List Event) → ((e : Event) → Among e ws → e.time < W.plan.limits.end) → AllByRecursion (λ (x : Line). x.event.time < W.plan.limits.end) (run_lines W.model W.plan.limits k ps ws)
 unfolding run_lines
 lines_early W zero ps ws h = tt
 lines_early W (suc k) ps [] h = tt

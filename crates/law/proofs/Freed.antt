@@ -8,7 +8,7 @@ use Rattle.pool.specs.declared.base.Place.{Place}
 use Rattle.pool.specs.declared.base.Place.TheVariants.{Out, Lane}
 use Rattle.sequential.specs.declared.base.Process.{Process}
 use Rattle.machine.specs.Calls.{World}
-use Rattle.machine.specs.Machine.{Machine, blank, at, freed, is_transit, is_pending, is_done}
+use Rattle.machine.specs.Machine.{Machine, blank, freed, is_transit, is_pending, is_done}
 use Rattle.machine.specs.declared.base.Message.{Message}
 use Rattle.machine.specs.declared.base.Plan.{Plan}
 use Rattle.law.proofs.Invariant.{is_live, parts, lives, transits, pendings, dones, flags, events, snapshots, outcomes, sents, Sized, Fit, Placed, Kept}

@@ -3,7 +3,7 @@
 use Rattle.std.proofs.Common.{◌≡◌, ℕ, zero, suc, ◌+◌, ◌<◌, ◌≤◌, min, true, false, List, [], ◌∷◌, ◌++◌, Some, None, Option, sym, refl, ap, ◌∙◌, subst, inl, inr, arith}
 use Rattle.std.proofs.ByRecursion.{All-weaker, All-append}
 use Rattle.std.proofs.lemmas.Bool.{cases_eq, both_ways}
-use Rattle.std.specs.List.{AllByRecursion as All}
+use Rattle.std.specs.List.{AllByRecursion}
 use Rattle.model.specs.Meaning.{listed}
 use Rattle.pool.specs.Lanes.{Lanes, place_at}
 use Rattle.pool.specs.declared.base.Place.TheVariants.{Lane}
@@ -16,7 +16,7 @@ use Rattle.sequential.specs.declared.base.Line.{Line}
 use Rattle.sequential.specs.declared.base.Outcome.{Outcome}
 use Rattle.sequential.specs.declared.base.Process.{Process}
 use Rattle.machine.specs.Calls.{World, post_of}
-use Rattle.machine.specs.Machine.{Machine, Collected, collected_to, enter, at, freed, oldest, collected, sent, with_outside}
+use Rattle.machine.specs.Machine.{Machine, Collected, collected_to, enter, freed, oldest, collected, sent, with_outside}
 use Rattle.machine.specs.declared.base.Plan.{Plan}
 use Rattle.law.specs.Law.{Proper}
 use Rattle.law.proofs.Absorb.{none}
@@ -39,7 +39,7 @@ pub record Writes (W : World) (ps : List Process) (ws : List Event) (ls : List L
   pub waits : Waiting base (lives s') (flags s') (events s') waiting
   pub stands : Stands base processes
   pub steps : Steps W ps ws ls processes waiting
-  pub early : All (λ (x : Line). x.event.time < gvt) ls
+  pub early : AllByRecursion (λ (x : Line). x.event.time < gvt) ls
   pub gvt_same : s'.gvt ≡ gvt
 
 writes_more : (W : World) (ps : List Process) (e : Event) (ws : List Event) (o : Outcome) (ls : List Line) (gvt : ℕ) (s' : Machine) → outcome W.model W.plan.limits ps e ≡ o → e.time < gvt →
@@ -100,7 +100,7 @@ pub record History (W : World) (posts : List Event) (taken : List Line) (s : Mac
   pub stands : Stands base processes
   pub steps : Steps W (fresh W.model) (queued_all posts []) taken processes waiting
   pub within : (e : Event) → Among e (queued_all posts []) → (e.process < W.model.size) × (e.time < W.plan.limits.end)
-  pub early : All (λ (x : Line). x.event.time < s.gvt) taken
+  pub early : AllByRecursion (λ (x : Line). x.event.time < s.gvt) taken
 
 -- a call that leaves what is ready as it was, and does not lower GVT
 pub History-Steady : {W : World} {posts : List Event} {taken : List Line} {s s' : Machine} (H : History W posts taken s) → Kept W H.base none [] s' → Steady H.base s s' → History W posts taken s'

@@ -1,6 +1,6 @@
 -- Lists of buffers: what stands in them, what stands in them once, and what `set` leaves as it was.
 use Rattle.std.proofs.Common.{◌≡◌, ℕ, zero, suc, ◌⊎◌, List, [], ◌∷◌, ◌++◌, map, get_or, set, sym, refl, inl, inr}
-use Rattle.std.specs.List.{AllByRecursion as All}
+use Rattle.std.specs.List.{AllByRecursion}
 use Rattle.sequential.specs.declared.base.Event.{Event}
 
 abbrev pub In : ℕ → List ℕ → Type 0
@@ -50,7 +50,7 @@ pub map_same : {A : Type 0} (f g : ℕ → A) (xs : List ℕ) → ((c : ℕ) →
 map_same f g [] h = refl
 map_same f g (x ∷ xs) h = rw (h x (inl refl), map_same f g xs (λ c i. h c (inr i)))
 
-pub all_sent : (P : Event → Type 0) (event : ℕ → Event) (bs : List ℕ) → All P (map event bs) → (b : ℕ) → In b bs → P (event b)
+pub all_sent : (P : Event → Type 0) (event : ℕ → Event) (bs : List ℕ) → AllByRecursion P (map event bs) → (b : ℕ) → In b bs → P (event b)
 all_sent P event [] a b i = absurd i
 all_sent P event (c ∷ cs) a b (inl e) = rw e a.0
 all_sent P event (c ∷ cs) a b (inr i) = all_sent P event cs a.1 b i

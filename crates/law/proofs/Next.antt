@@ -4,7 +4,7 @@
 use Rattle.std.proofs.Common.{◌≡◌, ℕ, ◌<◌, ◌≤◌, Bool, true, false, List, [], ◌∷◌, map, length, get_or, Some, sym, refl, ap, ◌∙◌, inl, inr, arith}
 use Rattle.std.proofs.lemmas.List.{get_or-set_same, get_or-set_other, length-set}
 use Rattle.std.proofs.lemmas.Bool.{cases_Bool, cases_eq, both_ways, true≢false}
-use Rattle.model.specs.Meaning.{listed, many}
+use Rattle.model.specs.Meaning.{listed}
 use Rattle.pool.specs.Lanes.{Lanes}
 use Rattle.sequential.proofs.Keys.{SameKey, SameKey-sym, earlier_irreflexive, earlier_time}
 use Rattle.sequential.proofs.Sends.{Numbered, applied-sends}

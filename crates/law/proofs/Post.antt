@@ -13,7 +13,7 @@ use Rattle.machine.specs.declared.base.Message.{Message}
 use Rattle.law.specs.Law.{Proper}
 use Rattle.law.proofs.Absorb.{none}
 use Rattle.law.proofs.Enter.{Active-enter, Sending-enter}
-use Rattle.law.proofs.Invariant.{lives, dones, flags, events, sents, floors, reports, Kept, Timed, Covered, Active, Origin}
+use Rattle.law.proofs.Invariant.{lives, dones, flags, events, sents, Kept, Timed, Covered, Active, Origin}
 use Rattle.law.proofs.Invariant.Origin.{outer, settled, sent_by, owing}
 use Rattle.law.proofs.Picks.{done_lives}
 use Rattle.law.proofs.Room.{dead_room}

@@ -3,7 +3,7 @@
 use Rattle.std.proofs.Common.{◌≡◌, ℕ, zero, suc, ◌+◌, ◌-◌, ◌<◌, ◌≤◌, true, ltb, ◌⊎◌, List, [], ◌∷◌, ◌++◌, length, Some, None, Option, sym, refl, ap, ◌∙◌, subst, inl, inr, arith}
 use Rattle.std.proofs.lemmas.List.{append-nil, length-append}
 use Rattle.std.proofs.lemmas.Bool.{cases_Bool, cases_lt, both_ways, and_from, lt-ltb, le-ltb}
-use Rattle.std.specs.List.{AllByRecursion as All}
+use Rattle.std.specs.List.{AllByRecursion}
 use Rattle.model.specs.Meaning.{listed}
 use Rattle.sequential.proofs.Budget.{all_among, slack, slack_fresh, length-queued_all, fresh-count}
 use Rattle.sequential.proofs.Sends.{Fits, applied-sends}
@@ -38,7 +38,7 @@ before_append : (t : ℕ) (xs ys : List Line) → before t (xs ++ ys) ≡ before
 before_append t [] ys = omega arith
 before_append t (x ∷ xs) ys = let r = before_append t xs ys in elim (cases_Bool (ltb x.event.time t)) [ inl h ↦ rw h (omega arith) | inr h ↦ rw h r ]
 
-pub before_all : (t : ℕ) (xs : List Line) → All (λ (x : Line). x.event.time < t) xs → before t xs ≡ length xs
+pub before_all : (t : ℕ) (xs : List Line) → AllByRecursion (λ (x : Line). x.event.time < t) xs → before t xs ≡ length xs
 before_all t [] a = refl
 before_all t (x ∷ xs) a = rw (lt-ltb _ _ a.0) (ap suc (before_all t xs a.1))
 

@@ -10,7 +10,7 @@ use Rattle.sequential.proofs.Keys.{SameKey}
 use Rattle.sequential.specs.declared.base.Event.{Event}
 use Rattle.sequential.specs.declared.base.Process.{Process}
 use Rattle.machine.specs.Calls.{World}
-use Rattle.machine.specs.Machine.{Machine, Worker, idle, at, worker, home, coming, sent, enter, lower, with_outside, is_transit, is_pending, is_done}
+use Rattle.machine.specs.Machine.{Machine, Worker, idle, worker, home, coming, sent, enter, lower, with_outside, is_transit, is_pending, is_done}
 use Rattle.machine.specs.declared.base.Message.{Message}
 use Rattle.machine.specs.declared.base.Plan.{Plan}
 use Rattle.law.proofs.Enter.{Entering, Boxed-enter, Keyed-enter}

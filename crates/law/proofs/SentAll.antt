@@ -3,7 +3,7 @@
 use Rattle.std.proofs.Common.{◌≡◌, ℕ, ◌+◌, ◌<◌, ◌≤◌, true, false, List, [], ◌∷◌, ◌++◌, map, length, set, sym, refl, ap, ◌∙◌, subst, inl, inr, append_assoc, arith}
 use Rattle.std.proofs.lemmas.List.{get_or-set_same, get_or-set_other, append-nil}
 use Rattle.std.proofs.lemmas.Bool.{cases_eq, both_ways}
-use Rattle.std.specs.List.{AllByRecursion as All}
+use Rattle.std.specs.List.{AllByRecursion}
 use Rattle.pool.specs.declared.base.Place.{Place}
 use Rattle.pool.specs.declared.base.Place.TheVariants.{Out}
 use Rattle.sequential.proofs.Keys.{SameKey}
@@ -20,7 +20,6 @@ use Rattle.law.proofs.Cancel.{Lowering, Covered-cancel, Timed-add}
 use Rattle.law.proofs.Cancelled.{lower-floors}
 use Rattle.law.proofs.Enter.{Active-enter, Sending-enter}
 use Rattle.law.proofs.Invariant.{is_live, lives, pendings, flags, events, floors, reports, Ready, Steady, Fitting, Kept}
-use Rattle.law.proofs.Invariant.Active.{waits}
 use Rattle.law.proofs.Invariant.Origin.{owing}
 use Rattle.law.proofs.Members.{In, in_left, in_push, in_push_cases, Apart-push}
 use Rattle.law.proofs.Numbers.{number_below, base_below}
@@ -162,7 +161,7 @@ module _ (W : World) (P : Proper W) (base : ℕ → Process) (held : ℕ → Lis
   }
 
   pub Kept-sent_all : (w t p : ℕ) (d : Event) → w < W.plan.workers → d.time ≡ t → d.process ≡ p → (p ≡ outside → ⊥) → p < W.model.size → {places : List Place} {ls bs : List ℕ} → Drawn places ls bs → (es : List Event) (s : Machine) (owed : List ℕ) (n : ℕ) →
-      s.places ≡ places → length ls ≡ length es → All (Fits W.model.size W.plan.limits.end d) es → Numbered n es → (process s p).count ≤ n → ((c : ℕ) → In c owed → (events s c).number < n) →
+      s.places ≡ places → length ls ≡ length es → AllByRecursion (Fits W.model.size W.plan.limits.end d) es → Numbered n es → (process s p).count ≤ n → ((c : ℕ) → In c owed → (events s c).number < n) →
       Covers W w t s → Kept W base held owed s → SentAll w t owed bs es s (sent_all W.plan w bs es s)
   unfolding sent_all
   Kept-sent_all w t p d inside at_t at_p inner small no_lanes [] s owed n is ls fits numbered below owed_below C K =

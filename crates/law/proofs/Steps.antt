@@ -1,7 +1,7 @@
 -- The sequential run as data: so many lines from here to there. A post that is later than all of them waits to the end, so that
 -- it can be put into a run already made.
 use Rattle.std.proofs.Common.{◌≡◌, ℕ, suc, ◌+◌, ◌<◌, ◌≤◌, List, [], ◌∷◌, ◌++◌, length, refl, ap, ◌∙◌, inl, inr, suc-add, zero-add, arith}
-use Rattle.std.specs.List.{AllByRecursion as All}
+use Rattle.std.specs.List.{AllByRecursion}
 use Rattle.model.specs.Meaning.{Meaning, listed}
 use Rattle.sequential.proofs.Budget.{all_among, Going, Going-on, slack, slack_falls}
 use Rattle.sequential.proofs.Keys.{SameKey}
@@ -15,9 +15,7 @@ use Rattle.sequential.specs.declared.base.Line.{Line}
 use Rattle.sequential.specs.declared.base.Outcome.{Outcome}
 use Rattle.sequential.specs.declared.base.Process.{Process}
 use Rattle.machine.specs.Calls.{World}
-use Rattle.machine.specs.Machine.{at}
 use Rattle.law.specs.Law.{Proper}
-use Rattle.law.proofs.Collected.{within}
 
 -- the run goes from ps with ws waiting to ps' with ws' waiting, and writes ls
 pub data Steps (W : World) : List Process → List Event → List Line → List Process → List Event → Type 0 where
@@ -41,12 +39,12 @@ Steps-lines {W} (writes {ps = ps} {e = e} {ws = ws} {o = o} {ls = ls} is S) n = 
 
 -- an event from outside that is later than all that the run has written waits to the end
 pub Steps-post : {W : World} (P : Proper W) {ps : List Process} {ws : List Event} {ls : List Line} {ps' : List Process} {ws' : List Event} (e : Event) → e.sender ≡ outside → Steps W ps ws ls ps' ws' →
-    ((f : Event) → Among f ws → f.process < W.model.size) → All (λ (x : Line). x.event.time < e.time) ls → Steps W ps (queued e ws) ls ps' (queued e ws')
+    ((f : Event) → Among f ws → f.process < W.model.size) → AllByRecursion (λ (x : Line). x.event.time < e.time) ls → Steps W ps (queued e ws) ls ps' (queued e ws')
 Steps-post P e o rests n a = rests
 Steps-post {W} P e o (writes {ps = ps} {e = f} {ws = ws} {o = out} {ls = ls} {ps' = qs} {ws' = end} is S) n a =
     rw (queued-behind e f ws a.0) (writes is (rw (← (queued_all_comm e (listed out.sends) apart ws)) at (Steps-post P e o S within a.1)))
   where
-    fits : All (Fits W.model.size W.plan.limits.end f) (listed out.sends)
+    fits : AllByRecursion (Fits W.model.size W.plan.limits.end f) (listed out.sends)
     fits = rw (← is) (applied-sends W.model W.plan.limits f _).fit
 
     apart : (g : Event) → Among g (listed out.sends) → SameKey e g → ⊥

@@ -3,7 +3,7 @@
 use Rattle.std.proofs.Common.{◌≡◌, ℕ, suc, ◌<◌, ◌≤◌, true, false, List, [], ◌∷◌, ◌++◌, map, length, sym, refl, ap, ◌∙◌, inl, inr, append_assoc, arith}
 use Rattle.std.proofs.lemmas.List.{get_or-set_same, get_or-set_other, length-set}
 use Rattle.std.proofs.lemmas.Bool.{both_ways}
-use Rattle.std.specs.List.{AllByRecursion as All}
+use Rattle.std.specs.List.{AllByRecursion}
 use Rattle.model.specs.Meaning.{listed}
 use Rattle.sequential.proofs.Sends.{applied-sends, Fits}
 use Rattle.sequential.specs.Events.{outside, earlier, nobody}
@@ -134,7 +134,7 @@ module _ (W : World) (P : Proper W) (base : ℕ → Process) (held : ℕ → Lis
   pub sent-fits : {owed : List ℕ} {s : Machine} → Kept W base held owed s → (d : ℕ) → dones s d ≡ true → (b : ℕ) → In b (sents s d) → Fits W.model.size W.plan.limits.end (events s d) (events s b)
   sent-fits {owed} {s} K d h b i = all_sent (Fits W.model.size W.plan.limits.end (events s d)) (events s) (sents s d) fits b i
     where
-      fits : All (Fits W.model.size W.plan.limits.end (events s d)) (map (events s) (sents s d))
+      fits : AllByRecursion (Fits W.model.size W.plan.limits.end (events s d)) (map (events s) (sents s d))
       fits = rw (K.sending.events d h, done-applied W base held K d h) (applied-sends W.model W.plan.limits (events s d) _).fit
 
   -- one event undone, its messages not yet cancelled

@@ -1,6 +1,6 @@
 -- That the law speaks of something: proper worlds for both models over the lanes of both pools, and a run in each of them with a
 -- rollback, an annihilation, a round that raises GVT, and two collections.
-use Rattle.std.specs.Prelude.{ℕ, zero, suc, ◌^◌, ◌≤◌, List, [], ◌∷◌, ◌++◌, replicate}
+use Rattle.std.specs.Prelude.{◌^◌, ◌≤◌, [], ◌∷◌}
 use Rattle.std.proofs.Common.{lit≤}
 use Rattle.model.specs.Formulas.{switch, phold}
 use Rattle.model.specs.Meaning.{Meaning}

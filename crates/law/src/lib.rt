@@ -1,5 +1,7 @@
 // The law of runs: what every run of calls keeps, that its calls fix its answers, and that every call is answered.
 
+#![tactic(auto)]
+
 ghost use Rattle.law.specs.Law.{Lawful, QuietRoundsAreExact, AnswersFixedByCalls, EveryCallIsAnswered};
 ghost use Rattle.law.specs.Cases.{TheLawSpeaksOfRuns};
 

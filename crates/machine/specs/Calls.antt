@@ -1,5 +1,5 @@
 -- The six calls: when each is refused, what it answers, what it does; and runs of calls.
-use Rattle.std.specs.Prelude.{◌≡◌, ℕ, suc, ◌+◌, min, Bool, true, false, cond, not, List, [], ◌∷◌, map, length, set, is_some, Some, None, Option, ◌==◌, nat_le, nat_lt, slice_index_or, slice_set}
+use Rattle.std.specs.Prelude.{◌≡◌, ℕ, suc, ◌+◌, min, Bool, true, false, cond, not, List, [], ◌∷◌, map, is_some, Some, None, Option, ◌==◌, nat_le, nat_lt, slice_index_or, slice_set}
 use Rattle.model.specs.Formulas.{outside_limits}
 use Rattle.model.specs.Meaning.{Meaning, listed, many}
 use Rattle.pool.specs.Lanes.{Lanes, lies}

@@ -1,13 +1,11 @@
 -- The worked cases: a switch of two ports with service time 3, on two workers, over one lane of buffers.
-use Rattle.std.specs.Prelude.{◌≡◌, ℕ, zero, suc, ◌^◌, ◌<◌, ◌≤◌, List, [], ◌∷◌, ◌++◌, replicate, Some, None, slice_index}
+use Rattle.std.specs.Prelude.{◌≡◌, ℕ, zero, suc, ◌^◌, ◌<◌, ◌≤◌, List, [], ◌∷◌, replicate, Some, None, slice_index}
 use Rattle.std.proofs.Common.{lit<, lit≤, arith}
 use Rattle.std.proofs.lemmas.List.{get_or-replicate}
 use Rattle.model.specs.Formulas.{switch, zeros}
 use Rattle.model.specs.declared.base.State.{State}
 use Rattle.pool.specs.Pools.{common_lanes}
 use Rattle.sequential.specs.Events.{outside}
-use Rattle.sequential.specs.declared.base.Event.{Event}
-use Rattle.sequential.specs.declared.base.Limits.{Limits}
 use Rattle.sequential.specs.declared.base.Line.{Line}
 use Rattle.sequential.specs.declared.base.Verdict.{Verdict}
 use Rattle.sequential.specs.declared.base.Verdict.TheVariants.{Fine, ModelFault}

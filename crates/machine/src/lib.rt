@@ -1,4 +1,6 @@
 // The Time Warp machine: its types, and what every call must do, as definitions.
 
+#![tactic(auto)]
+
 pub mod base;
 pub mod numbers;

@@ -55,6 +55,7 @@ pub enum Reaction {
 pub struct OutsideLimits;
 
 // A model answers by its meaning alone; asking alters nothing.
+// A file with an `impl` imports it as `ProcessModel`, since the language has a trait `Model` of its own.
 pub trait Model {
     // its size, the initial state of each process, and its reaction
     ghost meaning: { Self → Meaning };

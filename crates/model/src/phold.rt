@@ -1,11 +1,11 @@
 // A synthetic load: every message is sent on, to a process and after a delay that a generator gives.
 
 ghost use Rattle.std.specs.Prelude.{◌≡◌, ◌≤◌, false, MatchResult};
-ghost use Rattle.model.specs.Formulas.{phold as pholdRules, size_fits};
+ghost use Rattle.model.specs.Formulas.{phold as phold_rules, size_fits};
 ghost use Rattle.std.proofs.Math.Nat.{mod-mod};
-ghost use Rattle.std.proofs.Common.{rules, arith};
+ghost use Rattle.std.proofs.Common.{rules};
 
-use crate::base::{Few, Model, OutsideLimits, Reaction, State, Want};
+use crate::base::{Few, Model as ProcessModel, OutsideLimits, Reaction, State, Want};
 
 const MOST_PROCESSES: u64 = 32;
 
@@ -36,16 +36,17 @@ impl Phold {
     }
 }
 
-pub impl Model for Phold as PholdModel {
-    ghost meaning = { λ m. pholdRules m.size m.seed };
+impl ProcessModel for Phold {
+    ghost meaning = { λ m. phold_rules m.size m.seed };
 
-    ghost sized = { first_of (Prim.search rules, Prim.grind (arith, Self.row.coded.inj)) };
+    ghost sized = { Prim.search rules };
 
-    ghost coded = { first_of (Prim.search rules, Prim.grind (arith, Self.row.coded.inj)) };
+    ghost coded = { Prim.search rules };
 
+    // a process number modulo the size, taken modulo the size again, is itself
     ghost starts_cyclic = { λ m p. rw mod-mod };
 
-    ghost reacts_cyclic = { first_of (Prim.search rules, Prim.grind (arith, Self.row.coded.inj)) };
+    ghost reacts_cyclic = { Prim.search rules };
 
     fn size(&self) -> u8 {
         self.size

@@ -1,11 +1,11 @@
 // A switch: each process is a port that serves cells one at a time; a cell's payload is the hops it has left.
 
 ghost use Rattle.std.specs.Prelude.{◌≡◌, ◌≤◌, true, false, ◌&&◌, MatchResult};
-ghost use Rattle.model.specs.Formulas.{forwarded, service_fits, size_fits, switch as switchRules};
+ghost use Rattle.model.specs.Formulas.{forwarded, service_fits, size_fits, switch as switch_rules};
 ghost use Rattle.std.proofs.Math.Nat.{mod-mod};
-ghost use Rattle.std.proofs.Common.{rules, arith};
+ghost use Rattle.std.proofs.Common.{rules};
 
-use crate::base::{Few, Model, OutsideLimits, Reaction, State, Want};
+use crate::base::{Few, Model as ProcessModel, OutsideLimits, Reaction, State, Want};
 
 const MOST_PROCESSES: u64 = 32;
 
@@ -58,15 +58,16 @@ impl Switch {
     }
 }
 
-pub impl Model for Switch as SwitchModel {
-    ghost meaning = { λ m. switchRules m.size m.service };
+impl ProcessModel for Switch {
+    ghost meaning = { λ m. switch_rules m.size m.service };
 
-    ghost sized = { first_of (Prim.search rules, Prim.grind (arith, Self.row.coded.inj)) };
+    ghost sized = { Prim.search rules };
 
-    ghost coded = { first_of (Prim.search rules, Prim.grind (arith, Self.row.coded.inj)) };
+    ghost coded = { Prim.search rules };
 
-    ghost starts_cyclic = { first_of (Prim.search rules, Prim.grind (arith, Self.row.coded.inj)) };
+    ghost starts_cyclic = { Prim.search rules };
 
+    // a process number modulo the size, taken modulo the size again, is itself
     ghost reacts_cyclic = { λ m p s t x. rw mod-mod };
 
     fn size(&self) -> u8 {

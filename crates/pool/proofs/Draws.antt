@@ -1,5 +1,5 @@
 -- What the contracts of a pool's calls say of counts, of two calls in a row and of what can be refused, for any pool.
-use Rattle.std.proofs.Common.{◌≡◌, ℕ, ◌+◌, ◌<◌, ◌≤◌, true, false, ◌≢◌, List, length, set, Some, None, sym, refl, ap, ◌∙◌, subst, inl, inr, arith, get_or-set_other, get_or-set_same}
+use Rattle.std.proofs.Common.{◌≡◌, ℕ, ◌+◌, ◌<◌, true, false, ◌≢◌, List, length, set, Some, None, sym, ap, ◌∙◌, inl, inr, arith, get_or-set_other, get_or-set_same}
 use lib.Seq.{set_out}
 use Rattle.std.proofs.lemmas.List.{get_or_past}
 use Rattle.std.proofs.lemmas.Bool.{cases_lt, and_from, and_parts, cond-true, cond-false}
@@ -8,7 +8,7 @@ use Rattle.pool.specs.declared.base.Place.TheVariants.{Out, Lane}
 use Rattle.pool.specs.declared.base.Grant.{Grant}
 use Rattle.pool.specs.Lanes.{Lanes, place_at, is_pair, is_out, lies, lent}
 use Rattle.pool.specs.Calls.{Drawn, takes_in, handed_in}
-use Rattle.pool.specs.Laws.{out_is, lies_drawn, lies_drawn_other, lent_drawn, lies-put, lies-put_other, lent-put, held, undone}
+use Rattle.pool.specs.Laws.{out_is, lies-draw, lies-draw_other, lent-draw, lies-put, lies-put_other, lent-put, held, hand_back-draw}
 
 -- what is set out is out
 pub set_out_at : (ps : List Place) (b : ℕ) → place_at (set ps b Out) b ≡ Out
@@ -67,7 +67,7 @@ module _ (n : Lanes) (ps qs : List Place) (i j : ℕ) (g : Grant) (d : Drawn n p
   Drawn-back =
       let h = handed (n.draw i j) i j g.buffer qs d.0 Drawn-out in (
         h.0,
-        h.1 ∙ ap (λ (rs : List Place). set rs g.buffer (Lane (n.draw i j))) d.3 ∙ undone (n.draw i j) ps g.buffer d.2,
+        h.1 ∙ ap (λ (rs : List Place). set rs g.buffer (Lane (n.draw i j))) d.3 ∙ hand_back-draw (n.draw i j) ps g.buffer d.2,
       )
 
   -- a buffer that lies in a lane after the draw is another one
@@ -91,12 +91,12 @@ module _ (n : Lanes) (ps qs : List Place) (i j : ℕ) (g : Grant) (d : Drawn n p
 
     -- the lane has one less
     pub Drawn-lies : lies (n.draw i j) qs + 1 ≡ lies (n.draw i j) ps
-    Drawn-lies = ap (λ (rs : List Place). lies (n.draw i j) rs + 1) d.3 ∙ lies_drawn (n.draw i j) ps g.buffer known d.2
+    Drawn-lies = ap (λ (rs : List Place). lies (n.draw i j) rs + 1) d.3 ∙ lies-draw (n.draw i j) ps g.buffer known d.2
 
     -- every other lane has as many as before
     pub Drawn-lies_other : (m : ℕ) → m ≢ n.draw i j → lies m qs ≡ lies m ps
-    Drawn-lies_other m ne = ap (λ (rs : List Place). lies m rs) d.3 ∙ lies_drawn_other (n.draw i j) m ps g.buffer known d.2 ne
+    Drawn-lies_other m ne = ap (λ (rs : List Place). lies m rs) d.3 ∙ lies-draw_other (n.draw i j) m ps g.buffer known d.2 ne
 
     -- one more is out
     pub Drawn-lent : lent qs ≡ lent ps + 1
-    Drawn-lent = ap lent d.3 ∙ lent_drawn (n.draw i j) ps g.buffer known d.2
+    Drawn-lent = ap lent d.3 ∙ lent-draw (n.draw i j) ps g.buffer known d.2

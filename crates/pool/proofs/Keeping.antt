@@ -1,11 +1,11 @@
 -- Taking the top of a stack, and putting a buffer on top, keep the facts of the stacks.
-use Rattle.std.proofs.Common.{◌≡◌, ℕ, ◌+◌, ◌<◌, ◌≤◌, ◌≢◌, ◌⊎◌, List, [], length, get_or, set, sym, refl, ap, ◌∙◌, subst, inl, inr, arith, length-set, get_or-set_other, get_or-set_same}
+use Rattle.std.proofs.Common.{◌≡◌, ℕ, ◌+◌, ◌<◌, ◌≤◌, ◌≢◌, ◌⊎◌, List, [], length, get_or, set, sym, ap, ◌∙◌, subst, inl, inr, arith, length-set, get_or-set_other, get_or-set_same}
 use Rattle.std.proofs.lemmas.Bool.{cases_eq}
 use Rattle.pool.specs.declared.base.Place.{Place}
 use Rattle.pool.specs.declared.base.Place.TheVariants.{Out, Lane}
 use Rattle.pool.specs.Lanes.{place_at, lies}
 use Rattle.pool.specs.Stacks.{item_at, Square, Tally, Sound, Apart}
-use Rattle.pool.specs.Laws.{lies_drawn, lies_drawn_other, lies-put, lies-put_other, room, held_out}
+use Rattle.pool.specs.Laws.{lies-draw, lies-draw_other, lies-put, lies-put_other, room, held_out}
 
 -- places that differ are of two buffers
 Apart-by : (ps : List Place) (a b : ℕ) (p q : Place) → place_at ps a ≡ p → place_at ps b ≡ q → (p ≡ q → ⊥) → a ≢ b
@@ -37,12 +37,12 @@ module _ (ps : List Place) (rows : List (List ℕ)) (hs : List ℕ) (l t : ℕ) 
         | inr ne ↦ (let s = get_or-set_other hs l m t 0 ne in omega arith)
       ]
 
-  pub tally-take : Tally (set ps (item_at rows l t) Out) (set hs l t)
-  tally-take m =
+  pub Tally-take : Tally (set ps (item_at rows l t) Out) (set hs l t)
+  Tally-take m =
       elim (cases_eq m l) [
         | inl e ↦ subst (λ i. get_or (set hs l t) i 0 ≡ lies i (set ps (item_at rows l t) Out)) (sym e)
-            (let s = get_or-set_same hs l t 0 lane in let d = lies_drawn l ps (item_at rows l t) known on_top in let y = tally l in omega arith)
-        | inr ne ↦ (let s = get_or-set_other hs l m t 0 ne in let d = lies_drawn_other l m ps (item_at rows l t) known on_top ne in let y = tally m in cc)
+            (let s = get_or-set_same hs l t 0 lane in let d = lies-draw l ps (item_at rows l t) known on_top in let y = tally l in omega arith)
+        | inr ne ↦ (let s = get_or-set_other hs l m t 0 ne in let d = lies-draw_other l m ps (item_at rows l t) known on_top ne in let y = tally m in cc)
       ]
 
   other_item : (m k : ℕ) → k < get_or (set hs l t) m 0 → item_at rows m k ≢ item_at rows l t
@@ -78,8 +78,8 @@ module _ (ps : List Place) (rows : List (List ℕ)) (hs : List ℕ) (l b : ℕ) 
   abbrev hs' : List ℕ
   hs' = set hs l (get_or hs l 0 + 1)
 
-  pub tally-put : Tally (set ps b (Lane l)) (set hs l (get_or hs l 0 + 1))
-  tally-put m =
+  pub Tally-put : Tally (set ps b (Lane l)) (set hs l (get_or hs l 0 + 1))
+  Tally-put m =
       elim (cases_eq m l) [
         | inl e ↦ subst (λ i. get_or hs' i 0 ≡ lies i (set ps b (Lane l))) (sym e)
             (let s = get_or-set_same hs l (get_or hs l 0 + 1) 0 lane in let d = lies-put l ps b known out in let y = tally l in omega arith)

@@ -1,4 +1,4 @@
-use Rattle.std.specs.Prelude.{◌≡◌, ℕ, ◌<◌, Bool, true, false, cond, ◌&&◌, List, Some, None, Option, slice_set}
+use Rattle.std.specs.Prelude.{◌≡◌, ℕ, ◌<◌, Bool, true, cond, ◌&&◌, List, Some, None, Option, slice_set}
 use Rattle.pool.specs.declared.base.Place.{Place}
 use Rattle.pool.specs.declared.base.Place.TheVariants.{Out, Lane}
 use Rattle.pool.specs.declared.base.Grant.{Grant}

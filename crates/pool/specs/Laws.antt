@@ -12,11 +12,11 @@ abbrev pub one : Bool → ℕ
 one true = 1
 one false = 0
 
-swap : (x y : Bool) (n : ℕ) → cond x (suc n) n + one y ≡ cond y (suc n) n + one x
-swap true true n = refl
-swap true false n = omega arith
-swap false true n = omega arith
-swap false false n = refl
+cond-one_swap : (x y : Bool) (n : ℕ) → cond x (suc n) n + one y ≡ cond y (suc n) n + one x
+cond-one_swap true true n = refl
+cond-one_swap true false n = omega arith
+cond-one_swap false true n = omega arith
+cond-one_swap false false n = refl
 
 carry : (x : Bool) (m n a b : ℕ) → m + a ≡ n + b → cond x (suc m) m + a ≡ cond x (suc n) n + b
 carry true m n a b e = omega arith
@@ -26,14 +26,14 @@ carry false m n a b e = e
 pub lies-set : (l : ℕ) (ps : List Place) (b : ℕ) (p : Place) → b < length ps → lies l (slice_set ps b p) + one (is_in l (place_at ps b)) ≡ lies l ps + one (is_in l p)
 unfolding lies
 lies-set l [] b p h = let z : ⊥ = omega arith in absurd z
-lies-set l (q ∷ ps) zero p h = swap (is_in l p) (is_in l q) (lies l ps)
+lies-set l (q ∷ ps) zero p h = cond-one_swap (is_in l p) (is_in l q) (lies l ps)
 lies-set l (q ∷ ps) (suc b) p h = carry (is_in l q) _ _ _ _ (lies-set l ps b p (omega arith))
 
 -- the same for the number of buffers that are out
 pub lent-set : (ps : List Place) (b : ℕ) (p : Place) → b < length ps → lent (slice_set ps b p) + one (is_out (place_at ps b)) ≡ lent ps + one (is_out p)
 unfolding lent
 lent-set [] b p h = let z : ⊥ = omega arith in absurd z
-lent-set (q ∷ ps) zero p h = swap (is_out p) (is_out q) (lent ps)
+lent-set (q ∷ ps) zero p h = cond-one_swap (is_out p) (is_out q) (lent ps)
 lent-set (q ∷ ps) (suc b) p h = carry (is_out q) _ _ _ _ (lent-set ps b p (omega arith))
 
 in_own : (l : ℕ) → is_in l (Lane l) ≡ true
@@ -51,22 +51,22 @@ out_is Out e = refl
 out_is (Lane m) e = let z : ◌≡◌ {A = ℕ} 0 1 = cc in let y : ⊥ = omega arith in absurd y
 
 -- a buffer of lane l goes out: the lane has one less
-pub lies_drawn : (l : ℕ) (ps : List Place) (b : ℕ) → b < length ps → place_at ps b ≡ Lane l → lies l (slice_set ps b Out) + 1 ≡ lies l ps
-lies_drawn l ps b h e =
+pub lies-draw : (l : ℕ) (ps : List Place) (b : ℕ) → b < length ps → place_at ps b ≡ Lane l → lies l (slice_set ps b Out) + 1 ≡ lies l ps
+lies-draw l ps b h e =
     let s = lies-set l ps b Out h in
     let t : one (is_in l (place_at ps b)) ≡ 1 = ap (λ p. one (is_in l p)) e ∙ ap one (in_own l) in
     omega arith
 
 -- every other lane has as many as before
-pub lies_drawn_other : (l m : ℕ) (ps : List Place) (b : ℕ) → b < length ps → place_at ps b ≡ Lane l → m ≢ l → lies m (slice_set ps b Out) ≡ lies m ps
-lies_drawn_other l m ps b h e ne =
+pub lies-draw_other : (l m : ℕ) (ps : List Place) (b : ℕ) → b < length ps → place_at ps b ≡ Lane l → m ≢ l → lies m (slice_set ps b Out) ≡ lies m ps
+lies-draw_other l m ps b h e ne =
     let s = lies-set m ps b Out h in
     let t : one (is_in m (place_at ps b)) ≡ 0 = ap (λ p. one (is_in m p)) e ∙ ap one (in_other l m ne) in
     omega arith
 
 -- one more is out
-pub lent_drawn : (l : ℕ) (ps : List Place) (b : ℕ) → b < length ps → place_at ps b ≡ Lane l → lent (slice_set ps b Out) ≡ lent ps + 1
-lent_drawn l ps b h e =
+pub lent-draw : (l : ℕ) (ps : List Place) (b : ℕ) → b < length ps → place_at ps b ≡ Lane l → lent (slice_set ps b Out) ≡ lent ps + 1
+lent-draw l ps b h e =
     let s = lent-set ps b Out h in
     let t : one (is_out (place_at ps b)) ≡ 0 = ap (λ p. one (is_out p)) e in
     omega arith
@@ -95,25 +95,25 @@ lent-put l ps b h e =
     omega arith
 
 -- a draw undone by handing back: every place is as before
-pub undone : (l : ℕ) (ps : List Place) (b : ℕ) → place_at ps b ≡ Lane l → slice_set (slice_set ps b Out) b (Lane l) ≡ ps
-undone l ps b e = let s = set-set ps b Out (Lane l) in let t = set-get_or ps b Out in cc
+pub hand_back-draw : (l : ℕ) (ps : List Place) (b : ℕ) → place_at ps b ≡ Lane l → slice_set (slice_set ps b Out) b (Lane l) ≡ ps
+hand_back-draw l ps b e = let s = set-set ps b Out (Lane l) in let t = set-get_or ps b Out in cc
 
 -- a buffer in the lane: the lane is not empty
 pub held : (l : ℕ) (ps : List Place) (b : ℕ) → b < length ps → place_at ps b ≡ Lane l → 0 < lies l ps
-held l ps b h e = let d = lies_drawn l ps b h e in omega arith
+held l ps b h e = let d = lies-draw l ps b h e in omega arith
 
 -- a buffer that is out: some are
 pub held_out : (ps : List Place) (b : ℕ) → b < length ps → place_at ps b ≡ Out → 0 < lent ps
 held_out ps b h e = let d = lent-put 0 ps b h e in omega arith
 
 -- a lane that is not empty has a buffer
-pub found : (l : ℕ) (ps : List Place) → 0 < lies l ps → (b : ℕ) × (b < length ps) × (place_at ps b ≡ Lane l)
+pub lies-has_buffer : (l : ℕ) (ps : List Place) → 0 < lies l ps → (b : ℕ) × (b < length ps) × (place_at ps b ≡ Lane l)
 unfolding lies
-found l [] h = let z : ⊥ = omega arith in absurd z
-found l (p ∷ ps) h =
+lies-has_buffer l [] h = let z : ⊥ = omega arith in absurd z
+lies-has_buffer l (p ∷ ps) h =
     elim (cases_Bool (is_in l p)) [
       | inl e ↦ (0, omega arith, in_is l p e)
-      | inr e ↦ (let f = found l ps (rw e at h) in (suc f.0, (let lt = f.1 in omega arith), f.2))
+      | inr e ↦ (let f = lies-has_buffer l ps (rw e at h) in (suc f.0, (let lt = f.1 in omega arith), f.2))
     ]
 
 -- where none is out, each buffer lies in a lane

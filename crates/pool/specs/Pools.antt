@@ -1,4 +1,4 @@
-use Rattle.std.specs.Prelude.{ℕ, replicate}
+use Rattle.std.specs.Prelude.{replicate}
 use Rattle.pool.specs.declared.base.Place.TheVariants.{Lane}
 use Rattle.pool.specs.Lanes.{Lanes}
 use Rattle.pool.specs.Stacks.{dealt}

@@ -1,14 +1,13 @@
 -- The shelf with all buffers out, and the places of new pools.
-use Rattle.std.specs.Prelude.{◌≡◌, ℕ, zero, suc, ◌+◌, ◌*◌, ◌/◌, ◌<◌, ◌≤◌, true, List, [], ◌∷◌, map, length, get_or, replicate, slice_index_or, refl}
+use Rattle.std.specs.Prelude.{◌≡◌, ℕ, zero, suc, ◌+◌, ◌/◌, ◌<◌, ◌≤◌, List, [], map, length, get_or, replicate, slice_index_or, refl}
 use Rattle.std.proofs.Common.{sym, ap, ◌∙◌, inl, inr, div-lt_iff_lt-mul, arith}
 use Rattle.std.specs.List.{range_with_len}
 use Rattle.std.proofs.lemmas.List.{get_or_past, length-replicate, get_or-replicate}
 use Rattle.std.proofs.lemmas.List.FromFn.{length-map-range_with_len, get_or-map-range_with_len}
 use Rattle.std.proofs.lemmas.Bool.{cases_lt}
-use Rattle.pool.specs.declared.base.Place.{Place}
 use Rattle.pool.specs.declared.base.Place.TheVariants.{Out, Lane}
 use Rattle.pool.specs.Lanes.{place_at, lies, lent}
-use Rattle.pool.specs.Stacks.{item_at, Square, Tally, Sound, Apart, dealt}
+use Rattle.pool.specs.Stacks.{Square, Tally, Sound, Apart, dealt}
 
 -- one value at every place, and past the end
 pub everywhere : {A : Type 0} (n l : ℕ) (a : A) → slice_index_or (replicate n a) l a ≡ a
@@ -18,8 +17,8 @@ everywhere n l a =
       | inr le ↦ get_or_past (replicate n a) l a (let r = length-replicate n a in omega arith)
     ]
 
-zeros : (l : ℕ) → get_or {A = ℕ} (replicate 8 0) l 0 ≡ 0
-zeros l = everywhere {A = ℕ} 8 l 0
+get_or-zeros : (l : ℕ) → get_or {A = ℕ} (replicate 8 0) l 0 ≡ 0
+get_or-zeros l = everywhere {A = ℕ} 8 l 0
 
 lies-outs : (l n : ℕ) → lies l (replicate n Out) ≡ 0
 unfolding lies
@@ -29,14 +28,14 @@ lies-outs l (suc n) = lies-outs l n
 pub Square-bare : Square (replicate 8 (replicate 256 0))
 Square-bare l h = ap (λ (r : List ℕ). length r) (get_or-replicate 8 l (replicate 256 0) [] h) ∙ length-replicate {A = ℕ} 256 0
 
-pub tally-bare : Tally (replicate 256 Out) (replicate 8 0)
-tally-bare l = zeros l ∙ sym (lies-outs l 256)
+pub Tally-bare : Tally (replicate 256 Out) (replicate 8 0)
+Tally-bare l = get_or-zeros l ∙ sym (lies-outs l 256)
 
 pub Sound-bare : Sound (replicate 256 Out) (replicate 8 (replicate 256 0)) (replicate 8 0)
-Sound-bare l k h = let z = zeros l in let y : ⊥ = omega arith in absurd y
+Sound-bare l k h = let z = get_or-zeros l in let y : ⊥ = omega arith in absurd y
 
 pub Apart-bare : Apart (replicate 8 (replicate 256 0)) (replicate 8 0)
-Apart-bare l j k f = let z = zeros l in let h = f.1 in omega arith
+Apart-bare l j k f = let z = get_or-zeros l in let h = f.1 in omega arith
 
 -- a share of 32 or more makes eight lanes at most
 pub lane_low : (b share : ℕ) → b < 256 → 32 ≤ share → b / share < 8

@@ -1,5 +1,7 @@
 // Tests of the two pools, through the trait.
 
+#![tactic(auto)]
+
 #[cfg(test)]
 mod tests {
     use pool::base::Pool;
@@ -59,8 +61,7 @@ mod tests {
     fn handed_back(rt: HostRuntime) -> Result<(), Fail> {
         let mut pool = <pool::common::CommonPool as Pool>::make();
         let Some(grant) = pool.draw(3, 4) else {
-            assert!(rt; false, "a new pool refused");
-            return Ok(());
+            panic!(rt; "a new pool refused");
         };
         let left = pool.count(0);
         assert!(rt; pool.hand_back(grant, 3, 4));

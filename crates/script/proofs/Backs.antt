@@ -1,12 +1,11 @@
 -- What is written of a proper script reads back as the same.
-use Rattle.std.proofs.Common.{◌≡◌, ℕ, ◌+◌, ◌^◌, ◌<◌, ◌≤◌, Bool, true, false, cond, not, ◌&&◌, ◌||◌, eqb, ltb, leb, ◌⊎◌, List, [], ◌∷◌, ◌++◌, length, Some, None, codes, decimal, Option, sym, refl, ap, ◌∙◌, inl, inr, arith, length-append}
+use Rattle.std.proofs.Common.{◌≡◌, ℕ, ◌+◌, ◌^◌, ◌<◌, ◌≤◌, Bool, true, false, not, ◌&&◌, ◌||◌, eqb, ltb, leb, ◌⊎◌, List, [], ◌∷◌, ◌++◌, length, Some, None, codes, decimal, sym, refl, ap, ◌∙◌, inl, inr, arith, length-append}
 use Rattle.std.specs.List.{flat_map}
 use Rattle.std.specs.Str.Parse.{AllDigits}
 use Rattle.std.specs.Int.{IsInRange}
 use Rattle.std.proofs.lemmas.List.{append_assoc, append-nil}
 use Rattle.std.proofs.lemmas.Str.Parse.{digit_from_value}
 use Rattle.std.proofs.lemmas.Bool.{eq-eqb, ne_eqb, eqb-false, and_parts, not-true, ltb-true, leb-true, le-leb, cond-true}
-use Rattle.machine.specs.declared.base.Call.{Call}
 use Rattle.machine.specs.declared.base.Call.TheVariants as call
 use Rattle.sequential.specs.Text.{spaced}
 use Rattle.script.specs.declared.base.Heading.{Heading}
@@ -20,8 +19,8 @@ use Rattle.script.specs.declared.base.Word.{Word}
 use Rattle.script.specs.declared.base.Word.TheVariants.{Place, Post, Absorb, Step, Round, Report, Collect}
 use Rattle.script.specs.Fields.{and_then, if_found}
 use Rattle.script.specs.Lines.{lines_of, word_of, asked_for, item_of, heading_of, heading_names, call_names, provided}
-use Rattle.script.specs.Reading.{Reading, is_call, items_from, calls_of, values_of, script_of}
-use Rattle.script.specs.Writing.{model_text, pool_text, behind, heading_text, item_text, item_fits, ordered, heading_fits, script_text, ReadsBack}
+use Rattle.script.specs.Reading.{is_call, items_from, calls_of, script_of}
+use Rattle.script.specs.Writing.{model_text, pool_text, behind, heading_text, item_text, item_fits, ordered, script_text, ReadsBack}
 use Rattle.script.proofs.Figures.{figure_decimal, three_back, length_three, digits_written}
 use Rattle.script.proofs.Items.{item_worded}
 

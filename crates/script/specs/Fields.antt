@@ -1,5 +1,5 @@
 -- The parts of a line: words and figures. Each definition gives what stands in front, and what follows it.
-use Rattle.std.specs.Prelude.{ℕ, ◌+◌, ◌-◌, ◌*◌, ◌^◌, Bool, true, false, cond, ◌&&◌, List, [], ◌∷◌, drop, Some, None, Option, ◌==◌, nat_le, nat_lt}
+use Rattle.std.specs.Prelude.{ℕ, ◌+◌, ◌-◌, ◌*◌, ◌^◌, Bool, false, cond, ◌&&◌, List, [], ◌∷◌, drop, Some, None, Option, ◌==◌, nat_le, nat_lt}
 
 -- one thing, and then another; none, where either is missing
 abbrev pub and_then : {A B : Type 0} → Option A → (A → Option B) → Option B

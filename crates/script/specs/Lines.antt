@@ -1,5 +1,5 @@
 -- What the lines of a script mean, one by one.
-use Rattle.std.specs.Prelude.{ℕ, Bool, true, false, cond, ◌&&◌, List, [], ◌∷◌, length, Some, None, codes, Option, ◌==◌, nat_le}
+use Rattle.std.specs.Prelude.{ℕ, Bool, false, cond, ◌&&◌, List, [], ◌∷◌, length, Some, None, codes, Option, ◌==◌, nat_le}
 use Rattle.machine.specs.declared.base.Call.TheVariants as call
 use Rattle.script.specs.declared.base.Heading.{Heading}
 use Rattle.script.specs.declared.base.Item.{Item}

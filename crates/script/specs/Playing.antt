@@ -20,7 +20,7 @@ use Rattle.script.specs.declared.base.ModelKind.{ModelKind}
 use Rattle.script.specs.declared.base.ModelKind.TheVariants.{Switch, Phold}
 use Rattle.script.specs.declared.base.PoolKind.{PoolKind}
 use Rattle.script.specs.declared.base.PoolKind.TheVariants.{Common, Receiver}
-use Rattle.script.specs.Reading.{Reading, reading}
+use Rattle.script.specs.Reading.{reading}
 
 -- a bad line is named by its number, on a line of its own
 abbrev pub bad_text : ℕ → List ℕ

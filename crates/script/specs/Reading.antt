@@ -5,7 +5,7 @@ use Rattle.script.specs.declared.base.Item.{Item}
 use Rattle.script.specs.declared.base.Item.TheVariants.{Place, Make}
 use Rattle.script.specs.declared.base.Script.{Script}
 use Rattle.script.specs.Fields.{and_then, if_found}
-use Rattle.script.specs.Lines.{lines_of, short, is_text, heading_names, heading_of, call_names, item_of, provided}
+use Rattle.script.specs.Lines.{lines_of, is_text, heading_names, heading_of, call_names, item_of, provided}
 
 -- the heading, what the right lines ask for, and the number of the first wrong or missing line
 pub record Reading : Type 0 where

@@ -1,5 +1,5 @@
 -- How a script is written.
-use Rattle.std.specs.Prelude.{◌≡◌, ℕ, ◌^◌, ◌≤◌, Bool, true, false, not, ◌&&◌, ◌||◌, List, [], ◌∷◌, ◌++◌, length, Some, None, codes, decimal, nat_le, nat_lt}
+use Rattle.std.specs.Prelude.{◌≡◌, ℕ, ◌^◌, Bool, true, false, not, ◌&&◌, ◌||◌, List, [], ◌∷◌, ◌++◌, length, Some, None, codes, decimal, nat_le, nat_lt}
 use Rattle.std.specs.List.{flat_map}
 use Rattle.machine.specs.declared.base.Call.{Call}
 use Rattle.machine.specs.declared.base.Call.TheVariants.{Post, Absorb, Step, Round, Report, Collect}

@@ -1,7 +1,7 @@
 // The parts of a line, read from a place in it on: words and figures.
 
 ghost use Rattle.std.specs.Prelude.{◌≡◌, drop};
-ghost use Rattle.script.specs.Fields.{after as afterWord, ended, digit_of, figure_of, found, found_at, spaced_of, three_of};
+ghost use Rattle.script.specs.Fields.{after as after_word, ended, digit_of, figure_of, found, found_at, spaced_of, three_of};
 
 // The value of a digit.
 fn digit(byte: u8) -> Option<u8>
@@ -15,7 +15,7 @@ fn digit(byte: u8) -> Option<u8>
 
 // Where the rest begins, if the word stands there.
 pub(crate) fn after(line: &[u8], at: usize, word: &[u8]) -> Option<usize>
-    ensures { found_at line.now result ≡ afterWord word.now (drop at line.now) }
+    ensures { found_at line.now result ≡ after_word word.now (drop at line.now) }
 {
     let mut i = at;
     for k in 0..word.len() {

@@ -1,5 +1,7 @@
 // Scripts: what their bytes mean, a reader and a writer, and running them.
 
+#![tactic(auto)]
+
 pub mod base;
 mod field;
 pub mod input;

@@ -1,5 +1,7 @@
 // Tests of the reader and the writer of scripts, at the edges of the layout.
 
+#![tactic(auto)]
+
 #[cfg(test)]
 mod tests {
     use machine::base::Call;

@@ -1,13 +1,12 @@
 -- The sequential run's budget suffices: the number waiting and what the cap still allows fall together by one with each line.
-use Rattle.std.proofs.Common.{◌≡◌, ℕ, zero, suc, ◌+◌, ◌-◌, ◌*◌, ◌<◌, ◌≤◌, Bool, true, false, cond, ◌⊎◌, List, [], ◌∷◌, ◌++◌, map, length, get_or, set, sym, refl, ap, ◌∙◌, inl, inr, arith}
-use Rattle.std.specs.List.{range_with_len, AllByRecursion as All}
+use Rattle.std.proofs.Common.{◌≡◌, ℕ, zero, suc, ◌+◌, ◌-◌, ◌*◌, ◌<◌, ◌≤◌, List, [], ◌∷◌, map, length, get_or, set, refl, ◌∙◌, inl, inr, arith}
+use Rattle.std.specs.List.{range_with_len, AllByRecursion}
 use Rattle.std.proofs.lemmas.Bool.{cond_both, cases_eq}
 use Rattle.std.proofs.lemmas.List.{get_or-set_same, get_or-set_other, length-set}
 use Rattle.model.specs.Meaning.{Meaning, listed, many}
 use Rattle.model.specs.declared.base.State.{State}
 use Rattle.sequential.specs.declared.base.Event.{Event}
 use Rattle.sequential.specs.declared.base.Limits.{Limits}
-use Rattle.sequential.specs.declared.base.Line.{Line}
 use Rattle.sequential.specs.declared.base.Outcome.{Outcome}
 use Rattle.sequential.specs.declared.base.Process.{Process}
 use Rattle.sequential.specs.Events.{earlier, nobody, moved}
@@ -57,7 +56,7 @@ pub length-fresh : (m : Meaning) → length (fresh m) ≡ 32
 unfolding fresh
 length-fresh m = refl
 
-pub all_among : (P : Event → Type 0) (es : List Event) → All P es → (f : Event) → Among f es → P f
+pub all_among : (P : Event → Type 0) (es : List Event) → AllByRecursion P es → (f : Event) → Among f es → P f
 all_among P [] a f i = absurd i
 all_among P (e ∷ es) a f (inl k) = rw k a.0
 all_among P (e ∷ es) a f (inr i) = all_among P es a.1 f i

@@ -1,7 +1,7 @@
 -- What an event that is applied sends: each message comes from its process, is later than it, due before the end, and for a
 -- process of the model; the messages are numbered from the count on, and the count stays within the cap.
-use Rattle.std.proofs.Common.{◌≡◌, ℕ, zero, suc, ◌+◌, ◌<◌, ◌≤◌, Bool, true, false, cond, ltb, leb, List, [], ◌∷◌, length, sym, refl, ◌∙◌, arith}
-use Rattle.std.specs.List.{AllByRecursion as All}
+use Rattle.std.proofs.Common.{◌≡◌, ℕ, ◌+◌, ◌<◌, ◌≤◌, true, ltb, leb, List, [], ◌∷◌, length, refl, arith}
+use Rattle.std.specs.List.{AllByRecursion}
 use Rattle.std.proofs.lemmas.Bool.{cond_both, ltb-true, leb-true}
 use Rattle.std.proofs.lemmas.Bool.Decides.{nat_tests}
 use Rattle.model.specs.Meaning.{Meaning, listed, many}
@@ -14,9 +14,7 @@ use Rattle.sequential.specs.declared.base.Event.{Event}
 use Rattle.sequential.specs.declared.base.Limits.{Limits}
 use Rattle.sequential.specs.declared.base.Outcome.{Outcome}
 use Rattle.sequential.specs.declared.base.Process.{Process}
-use Rattle.sequential.specs.declared.base.Verdict.{Verdict}
-use Rattle.sequential.specs.declared.base.Verdict.TheVariants.{Fine, ModelFault, NoReceiver, BadDelay, OverCap}
-use Rattle.sequential.specs.Events.{flaw, is_fine, delay_fits, more, message_of, messages_of, reacted, applied}
+use Rattle.sequential.specs.Events.{flaw, is_fine, more, message_of, messages_of, reacted, applied}
 
 pub length-listed : {A : Type 0} (xs : Few A) → length (listed xs) ≡ many xs
 length-listed Nothing = refl
@@ -30,7 +28,7 @@ pub record Fits (size end : ℕ) (e f : Event) : Type 0 where
   pub within : f.time < end
   pub receiver : f.process < size
 
-all_more : (P : Event → Type 0) (f : Event) (fs : Few Event) → P f → All P (listed fs) → All P (listed (more f fs))
+all_more : (P : Event → Type 0) (f : Event) (fs : Few Event) → P f → AllByRecursion P (listed fs) → AllByRecursion P (listed (more f fs))
 all_more P f Nothing h hs = (h, hs)
 all_more P f (One a) h hs = (h, hs)
 all_more P f (Two a b) h hs = (h, (hs.0, tt))
@@ -38,11 +36,11 @@ all_more P f (Two a b) h hs = (h, (hs.0, tt))
 flaw_none : (size : ℕ) (w : Want) (ws : List Want) → is_fine (flaw size (w ∷ ws)) ≡ true → (w.receiver < size) × (0 < w.delay) × (is_fine (flaw size ws) ≡ true)
 flaw_none size w ws h = (grind (arith, nat_tests), grind (arith, nat_tests), grind (arith, nat_tests))
 
-messages_fit : (size end : ℕ) (e : Event) (n : ℕ) (ws : List Want) → is_fine (flaw size ws) ≡ true → All (Fits size end e) (listed (messages_of end e n ws))
+messages_fit : (size end : ℕ) (e : Event) (n : ℕ) (ws : List Want) → is_fine (flaw size ws) ≡ true → AllByRecursion (Fits size end e) (listed (messages_of end e n ws))
 messages_fit size end e n [] h = tt
 messages_fit size end e n (w ∷ ws) h =
     let f = flaw_none size w ws h in
-    cond_both (ltb (e.time + w.delay) end) _ _ (λ fs. All (Fits size end e) (listed fs))
+    cond_both (ltb (e.time + w.delay) end) _ _ (λ fs. AllByRecursion (Fits size end e) (listed fs))
     (λ t. all_more (Fits size end e) (message_of e n w) (messages_of end e (n + 1) ws) (record { sender = refl; later = omega arith; within = ltb-true _ _ t; receiver = f.0 }) (messages_fit size end e (n + 1) ws f.2))
     (λ _. messages_fit size end e n ws f.2)
 
@@ -65,7 +63,7 @@ messages_numbered end e n (w ∷ ws) =
 
 -- what an event e of a process that has sent n messages may send
 pub record Sends (size : ℕ) (u : Limits) (e : Event) (n : ℕ) (fs : Few Event) : Type 0 where
-  pub fit : All (Fits size u.end e) (listed fs)
+  pub fit : AllByRecursion (Fits size u.end e) (listed fs)
   pub numbered : Numbered n (listed fs)
   pub capped : n ≤ u.most → n + many fs ≤ u.most
 

@@ -1,6 +1,6 @@
 -- The sequential run: events wait in key order; the least is applied, written, and its messages wait; until none waits.
-use Rattle.std.specs.Prelude.{◌≡◌, ℕ, zero, suc, ◌+◌, ◌*◌, ◌<◌, ◌≤◌, cond, List, [], ◌∷◌, ◌++◌, map, length, slice_index_or, slice_set}
-use Rattle.std.specs.List.{range_with_len, AllByRecursion as All}
+use Rattle.std.specs.Prelude.{◌≡◌, ℕ, zero, suc, ◌+◌, ◌*◌, ◌<◌, ◌≤◌, cond, List, [], ◌∷◌, map, length, slice_index_or, slice_set}
+use Rattle.std.specs.List.{range_with_len, AllByRecursion}
 use Rattle.model.specs.Meaning.{Meaning, listed}
 use Rattle.sequential.specs.declared.base.Event.{Event}
 use Rattle.sequential.specs.declared.base.Limits.{Limits}
@@ -59,5 +59,5 @@ run m u posts = lines m u (budget u posts) (fresh m) (queued_all posts [])
 abbrev pub BudgetSuffices : Type 0
 BudgetSuffices =
     (m : Meaning) (u : Limits) (posts : List Event) →
-    m.size ≤ 32 → All (λ e. e.process < m.size) posts →
+    m.size ≤ 32 → AllByRecursion (λ e. e.process < m.size) posts →
     waiting m u (budget u posts) (fresh m) (queued_all posts []) ≡ []

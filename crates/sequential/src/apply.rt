@@ -2,7 +2,7 @@
 
 ghost use Rattle.std.specs.Prelude.{◌≡◌, ◌+◌, ◌^◌, ◌<◌, ◌≤◌, true, [], ◌∷◌, nat_lt};
 ghost use Rattle.model.specs.Meaning.{listed, many};
-ghost use Rattle.sequential.specs.Events.{applied, code_of, earlier as keyEarlier, faulted, flaw as flawOf, is_fine, layer_of, message_of, messages_of, reacted as reactedTo};
+ghost use Rattle.sequential.specs.Events.{applied, code_of, earlier as key_earlier, faulted, flaw as first_flaw, is_fine, layer_of, message_of, messages_of, reacted as reacted_to};
 
 use crate::base::{Event, Limits, Outcome, Process, Verdict};
 use model::base::{Few, Model, Reaction, State, Want};
@@ -12,7 +12,7 @@ const LONGEST_DELAY: u64 = 0x100_0000_0000;
 impl Event {
     // Whether this event's key comes first: by time, then process, then sender, then number.
     pub fn earlier(&self, other: &Event) -> bool
-        ensures { result ≡ keyEarlier self.now other.now }
+        ensures { result ≡ key_earlier self.now other.now }
     {
         if self.time != other.time {
             return self.time < other.time;
@@ -55,7 +55,7 @@ impl Verdict {
 
 // What is wrong with one wanted send: its receiver is looked at before its delay.
 fn flaw_of(size: u8, want: &Want) -> Verdict
-    ensures { result ≡ flawOf size (want.now ∷ []) }
+    ensures { result ≡ first_flaw size (want.now ∷ []) }
 {
     if want.receiver >= size as u64 {
         return Verdict::NoReceiver;
@@ -68,7 +68,7 @@ fn flaw_of(size: u8, want: &Want) -> Verdict
 
 // The first thing wrong with the wanted sends, in their order.
 fn flaw(size: u8, wants: &Few<Want>) -> Verdict
-    ensures { result ≡ flawOf size (listed wants.now) }
+    ensures { result ≡ first_flaw size (listed wants.now) }
 {
     match wants {
         Few::Nothing => Verdict::Fine,
@@ -104,7 +104,7 @@ fn message(event: &Event, number: u64, want: &Want) -> Event
 
 // The messages of the event, numbered from `first` on; those due at or past the end are struck out.
 fn messages(size: u8, limits: &Limits, event: &Event, first: u64, wants: &Few<Want>) -> Few<Event>
-    requires fine { is_fine (flawOf size (listed wants.now)) ≡ true }
+    requires fine { is_fine (first_flaw size (listed wants.now)) ≡ true }
     requires counted { first ≤ limits.now.most }
     ensures { result ≡ messages_of limits.now.end event.now first (listed wants.now) }
 {
@@ -145,7 +145,7 @@ fn reacted(
     process: &Process,
     reaction: Reaction,
 ) -> Outcome
-    ensures value { result ≡ reactedTo size limits.now event.now process.now reaction }
+    ensures value { result ≡ reacted_to size limits.now event.now process.now reaction }
     ensures room { process.now.count + many result.sends < 2 ^ 64 }
 {
     let capped = process.count > limits.most;

@@ -1,5 +1,7 @@
 // Events and their keys, what applying one does, and the sequential run.
 
+#![tactic(auto)]
+
 pub mod apply;
 pub mod base;
 pub mod limits;

@@ -5,7 +5,7 @@ ghost use Rattle.std.specs.VecDeque.{deque_len};
 ghost use Rattle.model.specs.Meaning.{listed};
 ghost use Rattle.sequential.specs.Events.{nobody};
 ghost use Rattle.sequential.specs.Posts.{Fails, first_unfit, post_fits, posted};
-ghost use Rattle.sequential.specs.Run.{BudgetSuffices, fresh as freshProcesses, lines as lines_from, queued, queued_all, run as sequentialRun};
+ghost use Rattle.sequential.specs.Run.{BudgetSuffices, fresh as initial_processes, lines as lines_from, queued, queued_all, run as sequential_run};
 ghost use Rattle.sequential.specs.declared.base.RunError.TheVariants.{NoMemory};
 ghost use Rattle.std.specs.List.{insert};
 
@@ -91,7 +91,7 @@ fn accept<M: Model>(
 
 // Every process in its initial state, with nothing sent.
 pub fn fresh_processes<M: Model>(model: &M) -> [Process; PROCESSES]
-    ensures { result ≡ freshProcesses (M.Model.meaning model.now) }
+    ensures { result ≡ initial_processes (M.Model.meaning model.now) }
 {
     let state = State {
         w0: 0,
@@ -144,7 +144,7 @@ fn write_lines<M: Model>(
     budget: u64,
     mut waiting: VecDeque<Event>,
 ) -> Result<Vec<Line>, RunError>
-    ensures { MatchResult result (λ v. v.items ≡ lines_from (M.Model.meaning model.now) limits.now budget (freshProcesses (M.Model.meaning model.now)) waiting.items) (λ e. e ≡ NoMemory) }
+    ensures { MatchResult result (λ v. v.items ≡ lines_from (M.Model.meaning model.now) limits.now budget (initial_processes (M.Model.meaning model.now)) waiting.items) (λ e. e ≡ NoMemory) }
 {
     let mut lines = Vec::new(heap);
     let mut processes = fresh_processes(model);
@@ -180,7 +180,7 @@ pub fn run<M: Model>(
     limits: &Limits,
     posts: &[Post],
 ) -> Result<Vec<Line>, RunError>
-    ensures { MatchResult result (λ v. (first_unfit (M.Model.meaning model.now) limits.now 0 posts.now ≡ None) × (v.items ≡ sequentialRun (M.Model.meaning model.now) limits.now (posted 0 posts.now))) (Fails (M.Model.meaning model.now) limits.now posts.now) }
+    ensures { MatchResult result (λ v. (first_unfit (M.Model.meaning model.now) limits.now 0 posts.now ≡ None) × (v.items ≡ sequential_run (M.Model.meaning model.now) limits.now (posted 0 posts.now))) (Fails (M.Model.meaning model.now) limits.now posts.now) }
 {
     let waiting = accept(heap, model, limits, posts)?;
     let budget = posts.len() as u64 + 32 * limits.most;

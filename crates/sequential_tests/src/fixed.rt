@@ -3,9 +3,9 @@
 ghost use Rattle.std.specs.Prelude.{◌≡◌, ℕ, ◌≤◌};
 ghost use Rattle.model.specs.Formulas.{zeros};
 ghost use Rattle.model.specs.declared.base.Reaction.TheVariants.{Fault};
-ghost use Rattle.std.proofs.Common.{rules, arith};
+ghost use Rattle.std.proofs.Common.{rules};
 
-use model::base::{Few, Model, Reaction, State, Want};
+use model::base::{Few, Model as ProcessModel, Reaction, State, Want};
 
 #[derive(Drop)]
 pub struct Fixed {
@@ -13,16 +13,16 @@ pub struct Fixed {
     ghost coded: { (c : ℕ) → reaction ≡ Fault c → (1 ≤ c) × (c ≤ 255) },
 }
 
-pub impl Model for Fixed as FixedModel {
+impl ProcessModel for Fixed {
     ghost meaning = { λ m. record { size = 8; initial = λ p. zeros; reaction = λ p s t x. m.reaction } };
 
-    ghost sized = { first_of (Prim.search rules, Prim.grind (arith, Self.row.coded.inj)) };
+    ghost sized = { Prim.search rules };
 
-    ghost coded = { first_of (Prim.search rules, Prim.grind (arith, Self.row.coded.inj)) };
+    ghost coded = { Prim.search rules };
 
-    ghost starts_cyclic = { first_of (Prim.search rules, Prim.grind (arith, Self.row.coded.inj)) };
+    ghost starts_cyclic = { Prim.search rules };
 
-    ghost reacts_cyclic = { first_of (Prim.search rules, Prim.grind (arith, Self.row.coded.inj)) };
+    ghost reacts_cyclic = { Prim.search rules };
 
     fn size(&self) -> u8 {
         8

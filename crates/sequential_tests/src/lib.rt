@@ -1,5 +1,7 @@
 // Tests of the models, of applying an event, and of the sequential run.
 
+#![tactic(auto)]
+
 #[cfg(test)]
 mod applying;
 #[cfg(test)]

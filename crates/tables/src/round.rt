@@ -3,7 +3,7 @@
 ghost use Rattle.std.specs.Prelude.{◌≡◌, ◌<◌, ◌≤◌, List, map, is_some};
 ghost use Rattle.inbox.specs.Queue.{queue};
 ghost use Rattle.pool.specs.declared.base.Place.{Place};
-ghost use Rattle.machine.specs.Machine.{inbox_time, report_of, told as tells, clearing, opened as opens, missing as lacking, least_report, reported as reports, remaining as remains, worker as workerAt};
+ghost use Rattle.machine.specs.Machine.{inbox_time, report_of, told as tells, clearing, opened as opens, missing as lacking, least_report, reported as reports, remaining as remains, worker as worker_at};
 ghost use Rattle.tables.specs.Meaning.{machine_of, worker_of};
 
 use crate::table::{Row, Tables};
@@ -98,7 +98,7 @@ impl Tables {
     // The worker w has reported in the open round.
     pub fn has_reported(&self, w: u8) -> bool
         requires { w < 8 }
-        ensures { (pl : List Place) → result ≡ is_some (workerAt (machine_of self.now pl) w).report }
+        ensures { (pl : List Place) → result ≡ is_some (worker_at (machine_of self.now pl) w).report }
     {
         self.workers[w as usize].report.is_some()
     }

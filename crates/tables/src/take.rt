@@ -4,7 +4,7 @@ ghost use Rattle.std.specs.Prelude.{◌≡◌, ◌<◌, List, slice_index_or, sl
 ghost use Rattle.pool.specs.Lanes.{Lanes};
 ghost use Rattle.pool.specs.declared.base.Place.{Place};
 ghost use Rattle.machine.specs.declared.base.Plan.{Plan as Planned};
-ghost use Rattle.machine.specs.Machine.{left as leaves, first, worker as workerAt, freed as frees, arrived as arrives, annihilated as annihilates, absorbed_to, returned, blank};
+ghost use Rattle.machine.specs.Machine.{left as leaves, first, worker as worker_at, freed as frees, arrived as arrives, annihilated as annihilates, absorbed_to, returned, blank};
 ghost use Rattle.tables.specs.Meaning.{machine_of};
 ghost use Rattle.tables.specs.Takes.{Takes};
 
@@ -27,7 +27,7 @@ impl Tables {
     // The oldest buffer leaves the inbox of the worker w.
     pub(crate) fn take(&mut self, w: u8) -> Option<u8>
         requires { w < 8 }
-        ensures first { (pl : List Place) → result ≡ first (workerAt (machine_of self.old pl) w).inbox }
+        ensures first { (pl : List Place) → result ≡ first (worker_at (machine_of self.old pl) w).inbox }
         ensures machine { (pl : List Place) → machine_of self.new pl ≡ leaves w (machine_of self.old pl) }
     {
         self.workers[w as usize].inbox.pop()

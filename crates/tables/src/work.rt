@@ -3,7 +3,7 @@
 ghost use Rattle.std.specs.Prelude.{◌≡◌, ◌<◌, ◌≤◌, List, slice_index_or};
 ghost use Rattle.model.specs.Meaning.{many};
 ghost use Rattle.pool.specs.declared.base.Place.{Place};
-ghost use Rattle.machine.specs.Machine.{enter as enters, lower as lowers, cancelled as cancels, with_message, with_process, marked, at as messageAt, restored, undone as undoes, blank, latest as latestOf, next as next_of, oldest as oldestOf, past, rollback, rolled_to};
+ghost use Rattle.machine.specs.Machine.{enter as enters, lower as lowers, cancelled as cancels, with_message, with_process, marked, at as message_at, restored, undone as undoes, blank, latest as latest_of, next as next_of, oldest as oldest_of, past, rollback, rolled_to};
 ghost use Rattle.tables.specs.Meaning.{machine_of, fresh_of, done_of};
 
 use crate::homes::home_of;
@@ -99,7 +99,7 @@ impl Tables {
 
     // The message in the buffer b is cancelled.
     pub(crate) fn mark(&mut self, b: u8)
-        ensures { (pl : List Place) → machine_of self.new pl ≡ with_message b (marked (messageAt (machine_of self.old pl) b)) (machine_of self.old pl) }
+        ensures { (pl : List Place) → machine_of self.new pl ≡ with_message b (marked (message_at (machine_of self.old pl) b)) (machine_of self.old pl) }
     {
         self.records[b as usize].cancelled = true;
     }
@@ -156,7 +156,7 @@ impl Tables {
 
     // The latest done event of a process past the mark.
     pub(crate) fn latest(&self, p: u8, mark: &Event, through: bool) -> Option<u8>
-        ensures { (pl : List Place) → result ≡ latestOf p (past through mark.now) (machine_of self.now pl) }
+        ensures { (pl : List Place) → result ≡ latest_of p (past through mark.now) (machine_of self.now pl) }
     {
         foremost(
             &Latest {
@@ -185,7 +185,7 @@ impl Tables {
 
     // The done event of least key earlier than GVT.
     pub(crate) fn oldest(&self) -> Option<u8>
-        ensures { (pl : List Place) → result ≡ oldestOf (machine_of self.now pl) }
+        ensures { (pl : List Place) → result ≡ oldest_of (machine_of self.now pl) }
     {
         foremost(&Oldest { gvt: self.gvt }, &self.phases, &self.records)
     }

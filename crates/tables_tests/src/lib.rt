@@ -1,5 +1,7 @@
 // Tests of the tables on small cases: all processes live on the first of two workers.
 
+#![tactic(auto)]
+
 ghost use Rattle.std.specs.Prelude.{◌≡◌};
 
 use machine::base::Plan;
@@ -86,9 +88,11 @@ mod tests {
         t.post(&u, 0, 1, 10, 3);
         assert!(rt; t.due(1).1.count < 100);
         t.step(&u, 0, 1, &o, Few::One(2));
-        assert_eq!(rt; t.processes[1].count, 1);
+        let count = t.processes[1].count;
+        assert_eq!(rt; count, 1);
         assert!(rt; is_arrived(t.absorb(&u, 0), 1, 1));
-        assert_eq!(rt; t.processes[1].count, 0);
+        let count = t.processes[1].count;
+        assert_eq!(rt; count, 0);
         assert!(rt; is_gone(t.absorb(&u, 0), 2));
         assert!(rt; is_empty(t.absorb(&u, 0)));
         assert_eq!(rt; t.next(&u, 0), Some(0));

@@ -1,5 +1,7 @@
 // Runs a script, from the file that is named or from standard input, and prints its lines.
 
+#![tactic(auto)]
+
 use script::input::read_input;
 use script::play::run_script;
 

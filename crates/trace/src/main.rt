@@ -1,5 +1,7 @@
 // Runs a script, from the file that is named or from standard input, and prints each line's call with its answer.
 
+#![tactic(auto)]
+
 use executive::base::Setup;
 use machine::base::{Answer, Call, Refusal};
 use model::base::{Model, OutsideLimits};

@@ -1,5 +1,7 @@
 // A switch of two ports on two workers, with a rollback in it: each call, its answer, and the lines collected.
 
+#![tactic(auto)]
+
 use anyhow::anyhow;
 use executive::base::{Executive, Setup};
 use machine::base::{Answer, Call, Refusal};

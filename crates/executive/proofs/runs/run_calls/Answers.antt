@@ -1,7 +1,5 @@
 -- The law of runs, on what the calls came to.
-use Rattle.std.proofs.Common.{◌≡◌, sym, ap, ◌∙◌, subst}
-use Rattle.machine.specs.Calls.{Transcript}
-use Rattle.machine.specs.Machine.{started}
+use Rattle.std.proofs.Common.{subst}
 use Rattle.tables.specs.Meaning.{machine_of}
 use Rattle.executive.specs.Runs.{Goes, told}
 use Rattle.executive.specs.World.{world_of}

@@ -1,5 +1,5 @@
 -- The law of runs, on what the two groups of calls came to.
-use Rattle.std.proofs.Common.{◌≡◌, ◌∙◌, subst}
+use Rattle.std.proofs.Common.{◌∙◌, subst}
 use Rattle.tables.specs.Meaning.{machine_of}
 use Rattle.executive.specs.Runs.{Goes, told}
 use Rattle.executive.specs.World.{world_of}

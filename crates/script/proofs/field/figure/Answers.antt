@@ -7,7 +7,7 @@ pub returns-then-at-line : goal.returns-then-at-line
 returns-then-at-line c = sym (figure_past c.args.line.now c.args.at c.if-at-line.true)
 
 pub returns-in_err-first : goal.returns-in_err-first
-returns-in_err-first c = rw c.from-residual.ensures (sym (figure_none c.args.line.now c.args.at c.if-at-line.false (sym c.in_err-first.ensures)))
+returns-in_err-first c = rw c.from_residual.ensures (sym (figure_none c.args.line.now c.args.at c.if-at-line.false (sym c.in_err-first.ensures)))
 
 pub returns-then-first-eq0 : goal.returns-then-first-eq0
 returns-then-first-eq0 c = sym (figure_zero c.args.line.now c.args.at c.in_ok-first.first c.if-at-line.false (sym c.in_ok-first.ensures) c.if-first-eq0.true)

@@ -1,5 +1,5 @@
 -- One placing more; at the end none is left.
-use Rattle.std.proofs.Common.{◌≡◌, get_or, refl, ◌∙◌, subst}
+use Rattle.std.proofs.Common.{get_or, ◌∙◌, subst}
 use Rattle.script.specs.Playing.{PlacedBy}
 use Rattle.script.specs.declared.base.Item.TheVariants.{Place}
 use Rattle.script.proofs.Plays.{Settles-more, Settles-end}

@@ -1,5 +1,5 @@
 -- The setting was taken, and the third line is no bad one: the items are played.
-use Rattle.std.proofs.Common.{◌≡◌, string_bytes, sym, ◌∙◌, subst}
+use Rattle.std.proofs.Common.{string_bytes, sym, ◌∙◌, subst}
 use Rattle.script.specs.Playing.{Session}
 use Rattle.script.proofs.Plays.{Plays-sits}
 use Rattle.script.proofs.play.play.Goals as goal

@@ -1,5 +1,5 @@
 -- The items' placings, then their calls as a run from the start, which keeps the law.
-use Rattle.std.proofs.Common.{◌≡◌, ◌++◌, string_bytes, sym, refl, ap, ◌∙◌, subst}
+use Rattle.std.proofs.Common.{◌≡◌, ◌++◌, string_bytes, ap, ◌∙◌, subst}
 use Rattle.tables.specs.Meaning.{machine_of}
 use Rattle.law.proofs.Law.{law}
 use Rattle.law.specs.Law.{collected_lines, start}

@@ -1,5 +1,5 @@
 -- The three parts stand one behind the other.
-use Rattle.std.proofs.Common.{◌≡◌, [], ◌∷◌, ◌++◌, string_bytes, codes, decimal, ap, ◌∙◌, append_assoc}
+use Rattle.std.proofs.Common.{[], ◌∷◌, ◌++◌, string_bytes, codes, decimal, ap, ◌∙◌, append_assoc}
 use lib.Utf8.{encode}
 use Rattle.script.proofs.play.write_bad.Goals as goal
 

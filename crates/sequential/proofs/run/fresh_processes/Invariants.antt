@@ -1,6 +1,5 @@
 use Rattle.std.proofs.Common.{◌≡◌, ℕ, ◌<◌, length, get_or}
 use Rattle.sequential.specs.Events.{nobody}
-use Rattle.sequential.specs.declared.base.Process.{Process}
 use Rattle.sequential.proofs.run.fresh_processes.Given as goal
 
 -- the processes so far are as the model starts them

@@ -1,6 +1,5 @@
 -- The budget counts the posts as the definition does.
-use Rattle.std.proofs.Common.{◌≡◌, ℕ, ◌+◌, ◌*◌, Ok, Err, vec_items, sym, ap, ◌∙◌, subst, rules}
-use Rattle.sequential.specs.Posts.{posted}
+use Rattle.std.proofs.Common.{rules}
 use Rattle.sequential.proofs.Lines.{length-posted}
 use Rattle.sequential.proofs.run.run.Goals as goal
 

@@ -1,5 +1,5 @@
 -- Each turn writes the next line; with none waiting, or none left of the budget, all lines are written.
-use Rattle.std.proofs.Common.{◌≡◌, vec_items, deque_items, sym, ap, ◌∙◌, arith}
+use Rattle.std.proofs.Common.{vec_items, deque_items, arith}
 use Rattle.sequential.proofs.Lines.{begun, spent, idled, written}
 use Rattle.sequential.proofs.run.write_lines.Goals as goal
 use Rattle.sequential.proofs.run.write_lines.Goals.{else-loop-test, then-loop-test+in_default}

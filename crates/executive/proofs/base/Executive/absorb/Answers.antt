@@ -1,5 +1,5 @@
 -- The rows of refusals in their order; else the machine's absorption, and the buffer of a message that is gone returns to the pool.
-use Rattle.std.proofs.Common.{◌≡◌, [], is_some, sym, refl, ap, ◌∙◌, arith}
+use Rattle.std.proofs.Common.{is_some, refl, ap, ◌∙◌}
 use Rattle.machine.specs.declared.base.Call.TheVariants.{Absorb}
 use Rattle.machine.specs.declared.base.Refusal.TheVariants.{NoWorker}
 use Rattle.machine.specs.Machine.{absorbed_to}

@@ -1,5 +1,4 @@
 -- The lines written are the collection's, and those left are counted after it.
-use Rattle.std.proofs.Common.{refl}
 use Rattle.tables.specs.Meaning.{machine_of}
 use Rattle.executive.specs.World.{world_of}
 use Rattle.executive.proofs.Collects.{collect_goes}

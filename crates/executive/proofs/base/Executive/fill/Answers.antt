@@ -1,8 +1,8 @@
 -- Each turn collects one line more, and its buffer returns to the pool.
-use Rattle.std.proofs.Common.{◌≡◌, ◌-◌, ◌<◌, [], length, take, drop, sym, refl, ap, ◌∙◌, subst, arith}
+use Rattle.std.proofs.Common.{◌≡◌, ◌<◌, [], length, take, drop, sym, refl, ap, ◌∙◌, subst, arith}
 use native.Mathlib.Nat.{sub-zero}
 use Rattle.std.proofs.lemmas.List.{take_more_set}
-use Rattle.machine.specs.Machine.{Collected, collected, collected_to, freed, home, side}
+use Rattle.machine.specs.Machine.{collected, collected_to, freed, home, side}
 use Rattle.machine.proofs.Steps.{prefixed, collected_stop, collected-end, collected-turn}
 use Rattle.tables.specs.Meaning.{machine_of}
 use Rattle.executive.specs.World.{DonesLent}

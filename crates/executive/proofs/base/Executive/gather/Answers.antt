@@ -12,7 +12,7 @@ cut (suc k) (suc n) (x ∷ xs) ys h l = ap (λ zs. x ∷ zs) (cut k n xs ys (ome
 pub returns : goal.returns
 returns g c =
     let ls = c.collect-written.new.lines in
-    let n : length c.as_mut_slice.result.now ≡ c.args.most = omega (arith, c.in_ok-lines.ensures.made, c.as_mut_slice.ensures.len) in
+    let n : length c.as_mut_slice.result.now ≡ c.args.most = omega (arith, c.in_ok-lines.ensures.len, c.as_mut_slice.ensures.len) in
     let k : c.collect-written.result.0 ≤ length ls = omega (arith, c.collect-written.ensures.within, c.collect-written.auto.lines) in
     let m : length ls ≤ c.in_ok-lines.lines.len = omega (arith, c.as_mut_slice.ensures.len, c.collect-written.auto.lines) in
     let cuts : vec_items c.truncate.new.self ≡ take c.collect-written.result.0 ls = c.truncate.ensures.items ∙ cut _ _ ls _ k m in

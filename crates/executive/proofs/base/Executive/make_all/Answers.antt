@@ -1,11 +1,11 @@
 -- Each call goes on from where the run has come.
-use Rattle.std.proofs.Common.{◌≡◌, ◌+◌, [], length, get_or, take, vec_items, sym, refl, ap, ◌∙◌, subst, arith}
+use Rattle.std.proofs.Common.{◌≡◌, ◌+◌, length, get_or, take, vec_items, refl, ap, ◌∙◌, subst, arith}
 use Rattle.std.proofs.lemmas.List.{take_all, length_push}
 use Rattle.machine.specs.declared.base.Call.TheVariants.{Post}
 use Rattle.machine.specs.Calls.{Run}
 use Rattle.machine.specs.Calls.Run.{rests}
 use Rattle.tables.specs.Meaning.{machine_of}
-use Rattle.executive.specs.Runs.{Goes, answer_of, transcript_of}
+use Rattle.executive.specs.Runs.{answer_of, transcript_of}
 use Rattle.executive.specs.World.{Lent, Makes, world_of}
 use Rattle.executive.proofs.Offers.{is_proper, run_more}
 use Rattle.executive.proofs.base.Executive.make_all.Goals as goal

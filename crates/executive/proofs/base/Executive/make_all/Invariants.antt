@@ -1,4 +1,4 @@
-use Rattle.std.proofs.Common.{◌≡◌, ◌≤◌, length, take, vec_items}
+use Rattle.std.proofs.Common.{◌≡◌, length, take, vec_items}
 use Rattle.executive.specs.Runs.{Goes, transcript_of}
 use Rattle.executive.proofs.base.Executive.make_all.Given as goal
 

@@ -1,11 +1,11 @@
 -- The rows of refusals in their order; else the report is taken, and the last one closes the round.
-use Rattle.std.proofs.Common.{◌≡◌, List, [], is_some, sym, refl, ap, ◌∙◌}
+use Rattle.std.proofs.Common.{◌≡◌, List, [], sym, refl, ap, ◌∙◌}
 use Rattle.sequential.specs.declared.base.Line.{Line}
 use Rattle.machine.specs.declared.base.Answer.{Answer}
 use Rattle.machine.specs.declared.base.Answer.TheVariants.{Told}
 use Rattle.machine.specs.declared.base.Call.TheVariants.{Report}
 use Rattle.machine.specs.declared.base.Refusal.TheVariants.{NoWorker, NoRound, Reported}
-use Rattle.machine.specs.Machine.{Machine, missing, reported}
+use Rattle.machine.specs.Machine.{Machine, missing}
 use Rattle.machine.specs.Calls.{draws, does, answers}
 use Rattle.machine.specs.Calls.Drawn.{none}
 use Rattle.tables.specs.Meaning.{machine_of}

@@ -4,7 +4,7 @@ use Rattle.machine.specs.Machine.{started}
 use Rattle.executive.proofs.base.Setup.start.Goals as goal
 
 pub invariant_of-result : goal.invariant_of-result
-invariant_of-result g c = let e = c.start-tables.ensures.posted in (omega arith, tt)
+invariant_of-result g c = let e = c.start-tables.ensures.posted in record { capped = omega arith }
 
 pub returns : goal.returns
 unfolding started

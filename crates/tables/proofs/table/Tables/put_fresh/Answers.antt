@@ -5,7 +5,7 @@ use Rattle.tables.proofs.table.Tables.put_fresh.Goals as goal
 
 pub invariant_of-self : goal.invariant_of-self
 invariant_of-self c =
-    let m = fresh_of c.args.phase c.args.cancelled c.args.event in (
-      set_everywhere (λ m. m.event.process < 32) c.args.self.now.records c.args.b m c.args.self.now.placed c.requires,
-      (set-Mirrored c.args.self.now.phases c.args.self.now.records c.args.b m (omega arith) (omega arith) c.args.self.now.mirrored, tt),
-    )
+    let m = fresh_of c.args.phase c.args.cancelled c.args.event in record {
+      placed = set_everywhere (λ m. m.event.process < 32) c.args.self.now.records c.args.b m c.args.self.now.placed c.requires;
+      mirrored = set-Mirrored c.args.self.now.phases c.args.self.now.records c.args.b m (omega arith) (omega arith) c.args.self.now.mirrored;
+    }

@@ -7,6 +7,6 @@ use Rattle.tables.proofs.table.Tables.roll_back.Given as goal
 
 abbrev pub invariant-loop-k : goal.invariant-loop-k
 invariant-loop-k l =
-    ((pl : List Place) → added l.undone l.cancelled (rolled (256 - l.-k) l.u l.w l.p (past l.through l.mark) (machine_of l.self pl)) ≡ rollback l.u l.w l.p (past l.through l.mark) (machine_of l.initial.self pl))
-    × (l.undone ≤ l.-k)
-    × (l.cancelled ≤ 2 * l.-k)
+    ((pl : List Place) → added l.undone l.cancelled (rolled (256 - l._k) l.u l.w l.p (past l.through l.mark) (machine_of l.self pl)) ≡ rollback l.u l.w l.p (past l.through l.mark) (machine_of l.initial.self pl))
+    × (l.undone ≤ l._k)
+    × (l.cancelled ≤ 2 * l._k)

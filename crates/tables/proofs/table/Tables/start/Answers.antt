@@ -13,10 +13,10 @@ empty_Mirrored : Mirrored (replicate 256 Free) (replicate 256 blank)
 empty_Mirrored k h = rw (get_or-replicate 256 k Free Free h, get_or-replicate 256 k blank blank h)
 
 pub invariant_of-result : goal.invariant_of-result
-invariant_of-result c = (
-  subst Placed (sym c.empty_records-records.ensures) empty_Placed,
-  (subst (λ (xs : List Message). Mirrored (replicate 256 Free) xs) (sym c.empty_records-records.ensures) empty_Mirrored, tt),
-)
+invariant_of-result c = record {
+  placed = subst Placed (sym c.empty_records-records.ensures) empty_Placed;
+  mirrored = subst (λ (xs : List Message). Mirrored (replicate 256 Free) xs) (sym c.empty_records-records.ensures) empty_Mirrored;
+}
 
 pub returns : goal.returns
 unfolding started_with
