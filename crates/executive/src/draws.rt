@@ -17,7 +17,7 @@ pub(crate) fn draw_for<P: Pool>(
     sends: &Few<Event>,
 ) -> Option<Few<u8>>
     requires { worker < 8 }
-    ensures { Draws P.Pool.lanes plan.now worker sends.now (P.Pool.places pool.old) (P.Pool.places pool.new) result }
+    ensures { Draws P.lanes plan.now worker sends.now (P.places pool.old) (P.places pool.new) result }
 {
     match sends {
         Few::Nothing => Some(Few::Nothing),

@@ -69,7 +69,7 @@ impl<M: Model, P: Pool> Setup<M, P> {
     // Moves a process to a worker.
     pub fn place(&mut self, process: u64, worker: u64) -> Result<(), Refusal>
         ensures model { self.new.model ≡ self.old.model }
-        ensures plan { MatchResult result (λ _. (process < (M.Model.meaning self.old.model).size) × (worker < self.old.plan.workers) × Moved self.old.plan self.new.plan process worker) (λ e. (placing (M.Model.meaning self.old.model) self.old.plan process worker ≡ Some e) × (self.new.plan ≡ self.old.plan)) }
+        ensures plan { MatchResult result (λ _. (process < (M.meaning self.old.model).size) × (worker < self.old.plan.workers) × Moved self.old.plan self.new.plan process worker) (λ e. (placing (M.meaning self.old.model) self.old.plan process worker ≡ Some e) × (self.new.plan ≡ self.old.plan)) }
     {
         if process >= self.model.size() as u64 {
             return Err(Refusal::NoProcess);
@@ -91,7 +91,7 @@ impl<M: Model, P: Pool> Setup<M, P> {
     pub fn start(self) -> Executive<M, P>
         ensures model { result.model ≡ self.model }
         ensures plan { result.plan ≡ self.plan }
-        ensures machine { machine_of result.tables (P.Pool.places result.pool) ≡ started (M.Model.meaning self.model) P.Pool.lanes self.plan }
+        ensures machine { machine_of result.tables (P.places result.pool) ≡ started (M.meaning self.model) P.lanes self.plan }
     {
         let Setup {
             model,

@@ -1,5 +1,5 @@
 -- An inbox means a list of buffers, oldest first.
-use Rattle.std.specs.Prelude.{ℕ, zero, suc, ◌+◌, ◌%◌, cond, List, [], ◌∷◌, ◌++◌, length, Some, None, Option, nat_lt, slice_index}
+use Rattle.std.specs.Prelude.{ℕ, zero, suc, ◌+◌, ◌%◌, if◌then◌else◌, List, [], ◌∷◌, ◌++◌, length, Some, None, Option, nat_lt, slice_index}
 use Rattle.inbox.specs.declared.Inbox.{Inbox}
 
 -- n bytes of the ring from the place h on
@@ -17,7 +17,7 @@ no_inbox = record { slots = []; head = 0; len = 0 }
 
 -- a buffer comes in last, while fewer than 256 are in
 abbrev pub entered : ℕ → List ℕ → List ℕ
-entered b bs = cond (nat_lt (length bs) 256) (bs ++ (b ∷ [])) bs
+entered b bs = if nat_lt (length bs) 256 then bs ++ (b ∷ []) else bs
 
 -- the oldest of a list, and the others
 abbrev pub first : List ℕ → Option ℕ

@@ -1,6 +1,6 @@
 -- The law of runs: what every run of calls keeps, in terms of what its calls answered, the sequential run of its posts,
 -- and the machine's messages and places.
-use Rattle.std.specs.Prelude.{◌≡◌, ℕ, suc, ◌+◌, ◌<◌, ◌≤◌, true, false, cond, ◌⊎◌, List, [], ◌∷◌, ◌++◌, map, length, ◌≢◌, nat_lt, slice_index_or}
+use Rattle.std.specs.Prelude.{◌≡◌, ℕ, suc, ◌+◌, ◌<◌, ◌≤◌, true, false, if◌then◌else◌, ◌⊎◌, List, [], ◌∷◌, ◌++◌, map, length, ◌≢◌, nat_lt, slice_index_or}
 use Rattle.pool.specs.Lanes.{lent}
 use Rattle.sequential.specs.Events.{outside}
 use Rattle.sequential.specs.Run.{run}
@@ -89,7 +89,7 @@ calls_of r = map (λ x. x.0) r
 -- how many lines are earlier than a time
 abbrev pub before : ℕ → List Line → ℕ
 before t [] = 0
-before t (l ∷ ls) = cond (nat_lt l.event.time t) (suc (before t ls)) (before t ls)
+before t (l ∷ ls) = if nat_lt l.event.time t then suc (before t ls) else before t ls
 
 -- ---- the law
 

@@ -1,5 +1,5 @@
 -- The six calls: when each is refused, what it answers, what it does; and runs of calls.
-use Rattle.std.specs.Prelude.{◌≡◌, ℕ, suc, ◌+◌, min, Bool, true, false, cond, not, List, [], ◌∷◌, map, is_some, Some, None, Option, ◌==◌, nat_le, nat_lt, slice_index_or, slice_set}
+use Rattle.std.specs.Prelude.{◌≡◌, ℕ, suc, ◌+◌, min, Bool, true, false, if◌then◌else◌, not, List, [], ◌∷◌, map, is_some, Some, None, Option, ◌==◌, nat_le, nat_lt, slice_index_or, slice_set}
 use Rattle.model.specs.Formulas.{outside_limits}
 use Rattle.model.specs.Meaning.{Meaning, listed, many}
 use Rattle.pool.specs.Lanes.{Lanes, lies}
@@ -41,17 +41,17 @@ pub record World : Type 0 where
 -- the first refusal whose test holds: the upper row counts
 abbrev pub first_refusal : List (Bool × Refusal) → Option Refusal
 first_refusal [] = None
-first_refusal (r ∷ rs) = cond r.0 (Some r.1) (first_refusal rs)
+first_refusal (r ∷ rs) = if r.0 then Some r.1 else first_refusal rs
 
 -- how often the lane is asked for
 abbrev pub asked : ℕ → List ℕ → ℕ
 asked l [] = 0
-asked l (k ∷ ks) = cond (k == l) (suc (asked l ks)) (asked l ks)
+asked l (k ∷ ks) = if k == l then suc (asked l ks) else asked l ks
 
 -- each of the lanes ls holds as many buffers as all ask of it
 abbrev pub enough : List Place → List ℕ → List ℕ → Bool
 enough places all [] = true
-enough places all (l ∷ ls) = cond (nat_le (asked l all) (lies l places)) (enough places all ls) false
+enough places all (l ∷ ls) = if nat_le (asked l all) (lies l places) then enough places all ls else false
 
 module _ (W : World) where
   -- the lane that a post for the process draws from

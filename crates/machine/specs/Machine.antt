@@ -1,5 +1,5 @@
 -- The Time Warp machine: processes, messages by their buffers, workers, and the pool's places; and what becomes of them.
-use Rattle.std.specs.Prelude.{ℕ, zero, suc, ◌+◌, min, Bool, true, false, cond, not, ◌&&◌, List, [], ◌∷◌, ◌++◌, map, length, get_or, replicate, Some, None, Option, ◌==◌, nat_lt, slice_index, slice_index_or, slice_set}
+use Rattle.std.specs.Prelude.{ℕ, zero, suc, ◌+◌, min, Bool, true, false, if◌then◌else◌, not, ◌&&◌, List, [], ◌∷◌, ◌++◌, map, length, slice_index_or, replicate, Some, None, Option, ◌==◌, nat_lt, slice_index, slice_set}
 use Rattle.model.specs.Formulas.{zeros}
 use Rattle.model.specs.Meaning.{Meaning, listed, many}
 use Rattle.model.specs.declared.base.Few.{Few}
@@ -89,7 +89,7 @@ with_place b l s = record { processes = s.processes; messages = s.messages; work
 
 -- an inbox holds at most 256 buffers, which is all there are
 abbrev pub entered : ℕ → List ℕ → List ℕ
-entered b bs = cond (nat_lt (length bs) 256) (bs ++ (b ∷ [])) bs
+entered b bs = if nat_lt (length bs) 256 then bs ++ (b ∷ []) else bs
 
 -- the worker j changed
 abbrev pub on_worker : ℕ → (Worker → Worker) → Machine → Machine
@@ -199,7 +199,7 @@ rollback u w p past s = rolled 256 u w p past s
 
 -- the pair a message was drawn for
 abbrev pub side : Plan → Event → ℕ
-side u e = cond (e.sender == outside) 8 (home u e.sender)
+side u e = if e.sender == outside then 8 else home u e.sender
 
 -- where the buffer of a message returns to
 abbrev pub returned : Lanes → Plan → Event → Place
@@ -257,11 +257,11 @@ opened u s = record { processes = s.processes; messages = s.messages; workers = 
 -- the least of t and the times of the messages that pass a test
 abbrev pub least_time : (Message → Bool) → List Message → ℕ → ℕ
 least_time ok [] t = t
-least_time ok (m ∷ ms) t = least_time ok ms (cond (ok m) (min t m.event.time) t)
+least_time ok (m ∷ ms) t = least_time ok ms (if ok m then min t m.event.time else t)
 
 abbrev pub inbox_time : List Message → List ℕ → ℕ → ℕ
 inbox_time ms [] t = t
-inbox_time ms (b ∷ bs) t = inbox_time ms bs (min t (get_or ms b blank).event.time)
+inbox_time ms (b ∷ bs) t = inbox_time ms bs (min t (slice_index_or ms b blank).event.time)
 
 unfoldable pub report_of : Plan → ℕ → Machine → ℕ
 report_of u w s =
@@ -299,7 +299,7 @@ reported u w s =
 
 abbrev pub counted : (Message → Bool) → List Message → ℕ
 counted ok [] = 0
-counted ok (m ∷ ms) = cond (ok m) (suc (counted ok ms)) (counted ok ms)
+counted ok (m ∷ ms) = if ok m then suc (counted ok ms) else counted ok ms
 
 unfoldable pub remaining : Machine → ℕ
 remaining s = counted (λ m. is_done m.phase && nat_lt m.event.time s.gvt) s.messages

@@ -1,5 +1,5 @@
 -- The two models, by their formulas.
-use Rattle.std.specs.Prelude.{ℕ, ◌+◌, ◌-◌, ◌*◌, ◌/◌, ◌%◌, ◌^◌, max, Bool, cond, ◌&&◌, ◌==◌, nat_le, nat_lt}
+use Rattle.std.specs.Prelude.{ℕ, ◌+◌, ◌-◌, ◌*◌, ◌/◌, ◌%◌, ◌^◌, max, Bool, if◌then◌else◌, ◌&&◌, ◌==◌, nat_le, nat_lt}
 use Rattle.model.specs.declared.base.Few.{Few}
 use Rattle.model.specs.declared.base.Few.TheVariants.{Nothing, One}
 use Rattle.model.specs.declared.base.Reaction.{Reaction}
@@ -26,19 +26,16 @@ zeros = record { w0 = 0; w1 = 0; w2 = 0; w3 = 0 }
 
 -- a cell with hops left goes to the next process, cyclically, one hop fewer
 abbrev pub forwarded : ℕ → ℕ → ℕ → ℕ → Few Want
-forwarded size p delay hops = cond (hops == 0) Nothing (One (record { receiver = (p % size + 1) % size; delay = delay; payload = hops - 1 }))
+forwarded size p delay hops = if hops == 0 then Nothing else One (record { receiver = (p % size + 1) % size; delay = delay; payload = hops - 1 })
 
 -- a cell starts when it has come and the port is free, and departs a service time later; over 255 hops is fault 2, a departure past 2^40 fault 1
 abbrev pub switch_reaction : ℕ → ℕ → ℕ → State → ℕ → ℕ → Reaction
 switch_reaction size service p s time hops =
     let start = max time s.w0 in
     let departure = start + service in
-    cond (nat_lt 255 hops)
-    (Fault 2)
-    (cond (nat_lt (2 ^ 40) departure)
-    (Fault 1)
-    (Next (record { w0 = departure; w1 = (s.w1 + 1) % 2 ^ 64; w2 = (s.w2 + (start - time)) % 2 ^ 64; w3 = s.w3 })
-    (forwarded size p (departure - time) hops)))
+    if nat_lt 255 hops then Fault 2
+    else if nat_lt (2 ^ 40) departure then Fault 1
+    else Next (record { w0 = departure; w1 = (s.w1 + 1) % 2 ^ 64; w2 = (s.w2 + (start - time)) % 2 ^ 64; w3 = s.w3 }) (forwarded size p (departure - time) hops)
 
 -- a switch of so many ports, each serving a cell in the service time
 abbrev pub switch : ℕ → ℕ → Meaning

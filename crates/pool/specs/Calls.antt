@@ -1,4 +1,4 @@
-use Rattle.std.specs.Prelude.{◌≡◌, ℕ, ◌<◌, Bool, true, cond, ◌&&◌, List, Some, None, Option, slice_set}
+use Rattle.std.specs.Prelude.{◌≡◌, ℕ, ◌<◌, Bool, true, if◌then◌else◌, ◌&&◌, List, Some, None, Option, slice_set}
 use Rattle.pool.specs.declared.base.Place.{Place}
 use Rattle.pool.specs.declared.base.Place.TheVariants.{Out, Lane}
 use Rattle.pool.specs.declared.base.Grant.{Grant}
@@ -19,4 +19,4 @@ takes_in side worker buffer ps = is_pair side worker && is_out (place_at ps buff
 
 -- the places after a buffer is handed in for a pair: it goes into the lane where it is taken in, and else every place is kept
 abbrev pub handed_in : ℕ → ℕ → ℕ → ℕ → List Place → List Place
-handed_in lane side worker buffer ps = cond (takes_in side worker buffer ps) (slice_set ps buffer (Lane lane)) ps
+handed_in lane side worker buffer ps = if takes_in side worker buffer ps then slice_set ps buffer (Lane lane) else ps

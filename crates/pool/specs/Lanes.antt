@@ -1,4 +1,4 @@
-use Rattle.std.specs.Prelude.{ℕ, suc, Bool, true, false, cond, ◌&&◌, List, [], ◌∷◌, ◌==◌, nat_le, slice_index_or}
+use Rattle.std.specs.Prelude.{ℕ, suc, Bool, true, false, if◌then◌else◌, ◌&&◌, List, [], ◌∷◌, ◌==◌, nat_le, slice_index_or}
 use Rattle.pool.specs.declared.base.Place.{Place}
 use Rattle.pool.specs.declared.base.Place.TheVariants.{Out, Lane}
 
@@ -29,9 +29,9 @@ is_out (Lane m) = false
 -- how many buffers lie in the lane
 unfoldable pub lies : ℕ → List Place → ℕ
 lies l [] = 0
-lies l (p ∷ ps) = cond (is_in l p) (suc (lies l ps)) (lies l ps)
+lies l (p ∷ ps) = if is_in l p then suc (lies l ps) else lies l ps
 
 -- how many buffers are out
 unfoldable pub lent : List Place → ℕ
 lent [] = 0
-lent (p ∷ ps) = cond (is_out p) (suc (lent ps)) (lent ps)
+lent (p ∷ ps) = if is_out p then suc (lent ps) else lent ps

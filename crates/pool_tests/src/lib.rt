@@ -5,6 +5,8 @@
 #[cfg(test)]
 mod tests {
     use pool::base::Pool;
+    use pool::common::CommonPool;
+    use pool::receiver::ReceiverPool;
     use std::test::Fail;
 
     // more than a pool has
@@ -27,7 +29,7 @@ mod tests {
 
     #[test]
     fn common_runs_out(rt: HostRuntime) {
-        let mut pool = <pool::common::CommonPool as Pool>::make();
+        let mut pool = CommonPool::make();
         assert!(rt; pool.count(0) == 256);
         assert!(rt; pool.count(1) == 0);
         assert!(rt; drain(&mut pool, 8, 7) == 256);
@@ -37,7 +39,7 @@ mod tests {
 
     #[test]
     fn receivers_lane_runs_out(rt: HostRuntime) {
-        let mut pool = <pool::receiver::ReceiverPool as Pool>::make();
+        let mut pool = ReceiverPool::make();
         assert!(rt; drain(&mut pool, 2, 5) == 32);
         assert!(rt; drain(&mut pool, 8, 5) == 0);
         assert!(rt; pool.count(5) == 0);
@@ -48,7 +50,7 @@ mod tests {
 
     #[test]
     fn return_of_a_buffer_that_is_in(rt: HostRuntime) {
-        let mut pool = <pool::receiver::ReceiverPool as Pool>::make();
+        let mut pool = ReceiverPool::make();
         assert!(rt; !pool.take_back(40, 0, 1));
         assert!(rt; pool.count(1) == 32);
         assert!(rt; drain(&mut pool, 0, 1) == 32);
@@ -59,7 +61,7 @@ mod tests {
 
     #[test]
     fn handed_back(rt: HostRuntime) -> Result<(), Fail> {
-        let mut pool = <pool::common::CommonPool as Pool>::make();
+        let mut pool = CommonPool::make();
         let Some(grant) = pool.draw(3, 4) else {
             panic!(rt; "a new pool refused");
         };
@@ -72,7 +74,7 @@ mod tests {
 
     #[test]
     fn pairs_at_and_past_their_limits(rt: HostRuntime) {
-        let mut pool = <pool::receiver::ReceiverPool as Pool>::make();
+        let mut pool = ReceiverPool::make();
         assert!(rt; drain(&mut pool, 8, 7) == 32);
         assert!(rt; drain(&mut pool, 9, 6) == 0);
         assert!(rt; drain(&mut pool, 8, 8) == 0);

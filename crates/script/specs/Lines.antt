@@ -1,5 +1,5 @@
 -- What the lines of a script mean, one by one.
-use Rattle.std.specs.Prelude.{ℕ, Bool, false, cond, ◌&&◌, List, [], ◌∷◌, length, Some, None, codes, Option, ◌==◌, nat_le}
+use Rattle.std.specs.Prelude.{ℕ, Bool, false, if◌then◌else◌, ◌&&◌, List, [], ◌∷◌, length, Some, None, codes, Option, ◌==◌, nat_le}
 use Rattle.machine.specs.declared.base.Call.TheVariants as call
 use Rattle.script.specs.declared.base.Heading.{Heading}
 use Rattle.script.specs.declared.base.Item.{Item}
@@ -20,7 +20,7 @@ joins b (l ∷ ls) = (b ∷ l) ∷ ls
 -- the lines of a text, each with the line feed that ends it; only the last may lack one
 abbrev pub lines_of : List ℕ → List (List ℕ)
 lines_of [] = []
-lines_of (b ∷ bs) = cond (b == 10) ((b ∷ []) ∷ lines_of bs) (joins b (lines_of bs))
+lines_of (b ∷ bs) = if b == 10 then (b ∷ []) ∷ lines_of bs else joins b (lines_of bs)
 
 -- a line has at most 80 bytes before its line feed
 abbrev pub short : List ℕ → Bool
@@ -49,8 +49,7 @@ pool_of bs = or_else (named (codes " common") Common bs) (named (codes " receive
 -- the second line: model, size, setting, pool, end, cap and workers
 abbrev pub heading_of : List ℕ → Option Heading
 heading_of line =
-    cond (short line) (and_then (model_of line) (λ m. and_then (spaced_of m.1) (λ s. and_then (spaced_of s.1) (λ x. and_then (pool_of x.1) (λ p. and_then (three_of p.1) (λ t.
-    Some record { model = m.0; size = s.0; setting = x.0; pool = p.0; end = t.0; most = t.1; workers = t.2 })))))) None
+    if short line then and_then (model_of line) (λ m. and_then (spaced_of m.1) (λ s. and_then (spaced_of s.1) (λ x. and_then (pool_of x.1) (λ p. and_then (three_of p.1) (λ t. Some record { model = m.0; size = s.0; setting = x.0; pool = p.0; end = t.0; most = t.1; workers = t.2 }))))) else None
 
 -- the word of a further line
 abbrev pub word_of : List ℕ → Option (Word × List ℕ)
@@ -60,7 +59,7 @@ word_of bs =
 
 -- where the test holds
 abbrev pub provided : {A : Type 0} → Bool → A → Option A
-provided ok x = cond ok (Some x) None
+provided ok x = if ok then Some x else None
 
 -- what a word and its three numbers ask for; unused numbers are 0, and a list has at most 64 places
 abbrev pub asked_for : Word → ℕ → ℕ → ℕ → Option Item
@@ -74,4 +73,4 @@ asked_for Collect a b c = provided (nat_le a 64 && (b == 0 && c == 0)) (item.Mak
 
 -- a further line: a word and three numbers
 abbrev pub item_of : List ℕ → Option Item
-item_of line = cond (short line) (and_then (word_of line) (λ w. and_then (three_of w.1) (λ t. asked_for w.0 t.0 t.1 t.2))) None
+item_of line = if short line then and_then (word_of line) (λ w. and_then (three_of w.1) (λ t. asked_for w.0 t.0 t.1 t.2)) else None

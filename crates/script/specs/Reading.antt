@@ -1,5 +1,5 @@
 -- What the bytes of a script mean.
-use Rattle.std.specs.Prelude.{ℕ, ◌+◌, Bool, true, false, cond, not, ◌||◌, List, [], ◌∷◌, ◌++◌, drop, Some, None, vec_items, Option, slice_index_or}
+use Rattle.std.specs.Prelude.{ℕ, ◌+◌, Bool, true, false, if◌then◌else◌, not, ◌||◌, List, [], ◌∷◌, ◌++◌, drop, Some, None, vec_items, Option, slice_index_or}
 use Rattle.script.specs.declared.base.Heading.{Heading}
 use Rattle.script.specs.declared.base.Item.{Item}
 use Rattle.script.specs.declared.base.Item.TheVariants.{Place, Make}
@@ -34,7 +34,7 @@ items_from h xs begun n (line ∷ lines) =
 
 -- what the lines from the third on mean
 abbrev pub calls_of : Heading → List (List ℕ) → Reading
-calls_of h lines = cond (is_text call_names (slice_index_or lines 0 [])) (items_from h [] false 4 (drop 1 lines)) (record { heading = Some h; items = []; bad = Some 3 })
+calls_of h lines = if is_text call_names (slice_index_or lines 0 []) then items_from h [] false 4 (drop 1 lines) else record { heading = Some h; items = []; bad = Some 3 }
 
 -- what the lines from the second on mean
 abbrev pub values_of : List (List ℕ) → Reading
@@ -43,7 +43,7 @@ values_of lines =
 
 -- what all lines mean; a missing line is read as one with no byte, and is wrong
 abbrev pub script_of : List (List ℕ) → Reading
-script_of lines = cond (is_text heading_names (slice_index_or lines 0 [])) (values_of (drop 1 lines)) (record { heading = None; items = []; bad = Some 1 })
+script_of lines = if is_text heading_names (slice_index_or lines 0 []) then values_of (drop 1 lines) else record { heading = None; items = []; bad = Some 1 }
 
 -- what the bytes mean
 abbrev pub reading : List ℕ → Reading

@@ -79,7 +79,7 @@ fn play_item<M: Model, P: Pool>(
 ) -> Result<(), AllocError>
     ensures model { executive.new.model ≡ executive.old.model }
     ensures plan { executive.new.plan ≡ executive.old.plan }
-    ensures plays { OnOk result (Played (M.Model.meaning executive.old.model) P.Pool.lanes executive.old.plan executive.old.tables (P.Pool.places executive.old.pool) item (string_bytes text.old) (string_bytes text.new) executive.new.tables (P.Pool.places executive.new.pool)) }
+    ensures plays { OnOk result (Played (M.meaning executive.old.model) P.lanes executive.old.plan executive.old.tables (P.places executive.old.pool) item (string_bytes text.old) (string_bytes text.new) executive.new.tables (P.places executive.new.pool)) }
 {
     match item {
         Item::Place(_, _) => Ok(()),
@@ -98,7 +98,7 @@ fn play_items<M: Model, P: Pool>(
     items: &[Item],
     text: &mut String,
 ) -> Result<(), AllocError>
-    ensures { OnOk result (PlayedAll (M.Model.meaning executive.old.model) P.Pool.lanes executive.old.plan executive.old.tables (P.Pool.places executive.old.pool) items.now (string_bytes text.old) (string_bytes text.new)) }
+    ensures { OnOk result (PlayedAll (M.meaning executive.old.model) P.lanes executive.old.plan executive.old.tables (P.places executive.old.pool) items.now (string_bytes text.old) (string_bytes text.new)) }
 {
     for i in 0..items.len() {
         play_item(heap, executive, items[i], text)?;
@@ -109,7 +109,7 @@ fn play_items<M: Model, P: Pool>(
 // Does the placing of an item; a refused one changes nothing.
 fn place_item<M: Model, P: Pool>(setup: &mut Setup<M, P>, item: Item)
     ensures model { setup.new.model ≡ setup.old.model }
-    ensures places { PlacedBy (M.Model.meaning setup.old.model) setup.old.plan item setup.new.plan }
+    ensures places { PlacedBy (M.meaning setup.old.model) setup.old.plan item setup.new.plan }
 {
     match item {
         Item::Place(process, worker) => match setup.place(process, worker) {
@@ -123,7 +123,7 @@ fn place_item<M: Model, P: Pool>(setup: &mut Setup<M, P>, item: Item)
 // Does the placings of the items, one after the other.
 fn place_items<M: Model, P: Pool>(setup: &mut Setup<M, P>, items: &[Item])
     ensures model { setup.new.model ≡ setup.old.model }
-    ensures settles { Settles (M.Model.meaning setup.old.model) setup.old.plan items.now setup.new.plan }
+    ensures settles { Settles (M.meaning setup.old.model) setup.old.plan items.now setup.new.plan }
 {
     for i in 0..items.len() {
         place_item(setup, items[i]);
@@ -146,7 +146,7 @@ fn session<M: Model + Drop, P: Pool + Drop>(
     items: &[Item],
     bad: Option<u64>,
 ) -> Result<String, AllocError>
-    ensures { IfOk result (λ t. Session (M.Model.meaning setup.model) P.Pool.lanes setup.plan items.now bad (string_bytes t)) }
+    ensures { IfOk result (λ t. Session (M.meaning setup.model) P.lanes setup.plan items.now bad (string_bytes t)) }
 {
     place_items(&mut setup, items);
     let mut executive = setup.start();
@@ -174,7 +174,7 @@ fn play<M: Model + Drop, P: Pool + Drop>(
     items: &[Item],
     bad: Option<u64>,
 ) -> Result<String, AllocError>
-    ensures { IfOk result (λ t. Plays (M.Model.meaning model) P.Pool.lanes heading.now items.now bad (string_bytes t)) }
+    ensures { IfOk result (λ t. Plays (M.meaning model) P.lanes heading.now items.now bad (string_bytes t)) }
 {
     let mut setup: Setup<M, P> = Setup::fresh(model);
     if let Err(_) = setup.set(heading.end, heading.most, heading.workers) {
@@ -195,7 +195,7 @@ fn play_over<M: Model + Drop>(
     items: &[Item],
     bad: Option<u64>,
 ) -> Result<String, AllocError>
-    ensures { IfOk result (λ t. Plays (M.Model.meaning model) (lanes_of heading.now.pool) heading.now items.now bad (string_bytes t)) }
+    ensures { IfOk result (λ t. Plays (M.meaning model) (lanes_of heading.now.pool) heading.now items.now bad (string_bytes t)) }
 {
     match heading.pool {
         PoolKind::Common => {

@@ -1,5 +1,5 @@
 -- Events, their keys, and what applying one event does.
-use Rattle.std.specs.Prelude.{ℕ, ◌+◌, ◌^◌, Bool, true, false, cond, ◌&&◌, ◌||◌, List, [], ◌∷◌, ◌==◌, nat_le, nat_lt}
+use Rattle.std.specs.Prelude.{ℕ, ◌+◌, ◌^◌, Bool, true, false, if◌then◌else◌, ◌&&◌, ◌||◌, List, [], ◌∷◌, ◌==◌, nat_le, nat_lt}
 use Rattle.model.specs.Meaning.{Meaning, listed, many}
 use Rattle.model.specs.Formulas.{zeros}
 use Rattle.model.specs.declared.base.Few.{Few}
@@ -69,7 +69,7 @@ delay_fits delay = nat_le 1 delay && nat_le delay (2 ^ 40)
 -- the first thing wrong with the wanted sends, in their order; of one send its receiver is looked at before its delay
 abbrev pub flaw : ℕ → List Want → Verdict
 flaw size [] = Fine
-flaw size (w ∷ ws) = cond (nat_le size w.receiver) NoReceiver (cond (delay_fits w.delay) (flaw size ws) BadDelay)
+flaw size (w ∷ ws) = if nat_le size w.receiver then NoReceiver else if delay_fits w.delay then flaw size ws else BadDelay
 
 -- one more in front of a few
 abbrev pub more : {A : Type 0} → A → Few A → Few A
@@ -86,7 +86,7 @@ message_of e n w =
 abbrev pub messages_of : ℕ → Event → ℕ → List Want → Few Event
 messages_of end e n [] = Nothing
 messages_of end e n (w ∷ ws) =
-    cond (nat_lt (e.time + w.delay) end) (more (message_of e n w) (messages_of end e (n + 1) ws)) (messages_of end e n ws)
+    if nat_lt (e.time + w.delay) end then more (message_of e n w) (messages_of end e (n + 1) ws) else messages_of end e n ws
 
 -- a faulted event leaves the state and sends nothing
 abbrev pub faulted : Verdict → State → Outcome
@@ -98,11 +98,9 @@ reacted size u e q (Fault c) = faulted (ModelFault c) q.state
 reacted size u e q (Next s ws) =
     let wrong = flaw size (listed ws) in
     let out = messages_of u.end e q.count (listed ws) in
-    cond (is_fine wrong)
-    (cond (nat_le (q.count + many out) u.most)
-    (record { verdict = Fine; state = s; sends = out })
-    (faulted OverCap q.state))
-    (faulted wrong q.state)
+    if is_fine wrong
+    then (if nat_le (q.count + many out) u.most then record { verdict = Fine; state = s; sends = out } else faulted OverCap q.state)
+    else faulted wrong q.state
 
 -- the event e applied to its process as it stands: the reaction is asked once
 unfoldable pub applied : Meaning → Limits → Event → Process → Outcome

@@ -1,5 +1,5 @@
 -- What is posted from outside, as the events of a run.
-use Rattle.std.specs.Prelude.{◌≡◌, ℕ, ◌+◌, Bool, cond, ◌&&◌, List, [], ◌∷◌, Some, None, Option, nat_lt}
+use Rattle.std.specs.Prelude.{◌≡◌, ℕ, ◌+◌, Bool, if◌then◌else◌, ◌&&◌, List, [], ◌∷◌, Some, None, Option, nat_lt}
 use Rattle.model.specs.Meaning.{Meaning}
 use Rattle.sequential.specs.declared.base.Event.{Event}
 use Rattle.sequential.specs.declared.base.Limits.{Limits}
@@ -24,7 +24,7 @@ post_fits m u n p = nat_lt p.process m.size && (nat_lt p.time u.end && nat_lt n 
 -- the place of the first post that cannot be accepted, counted from n on
 abbrev pub first_unfit : Meaning → Limits → ℕ → List Post → Option ℕ
 first_unfit m u n [] = None
-first_unfit m u n (p ∷ ps) = cond (post_fits m u n p) (first_unfit m u (n + 1) ps) (Some n)
+first_unfit m u n (p ∷ ps) = if post_fits m u n p then first_unfit m u (n + 1) ps else Some n
 
 -- a run without lines names the first post that cannot be accepted, or lacked memory
 abbrev pub Fails : Meaning → Limits → List Post → RunError → Type 0

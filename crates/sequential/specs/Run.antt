@@ -1,5 +1,5 @@
 -- The sequential run: events wait in key order; the least is applied, written, and its messages wait; until none waits.
-use Rattle.std.specs.Prelude.{◌≡◌, ℕ, zero, suc, ◌+◌, ◌*◌, ◌<◌, ◌≤◌, cond, List, [], ◌∷◌, map, length, slice_index_or, slice_set}
+use Rattle.std.specs.Prelude.{◌≡◌, ℕ, zero, suc, ◌+◌, ◌*◌, ◌<◌, ◌≤◌, if◌then◌else◌, List, [], ◌∷◌, map, length, slice_index_or, slice_set}
 use Rattle.std.specs.List.{range_with_len, AllByRecursion}
 use Rattle.model.specs.Meaning.{Meaning, listed}
 use Rattle.sequential.specs.declared.base.Event.{Event}
@@ -12,7 +12,7 @@ use Rattle.sequential.specs.Events.{earlier, applied, moved, line_of, nobody}
 -- an event joins the waiting ones, least key first
 abbrev pub queued : Event → List Event → List Event
 queued e [] = e ∷ []
-queued e (f ∷ fs) = cond (earlier e f) (e ∷ f ∷ fs) (f ∷ queued e fs)
+queued e (f ∷ fs) = if earlier e f then e ∷ f ∷ fs else f ∷ queued e fs
 
 -- so do several, one after the other
 abbrev pub queued_all : List Event → List Event → List Event

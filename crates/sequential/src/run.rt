@@ -57,7 +57,7 @@ fn enqueue_all(waiting: &mut VecDeque<Event>, sends: Few<Event>) -> Result<(), R
 
 // Whether the post can be accepted after `number` others.
 fn fits<M: Model>(model: &M, limits: &Limits, number: u64, post: &Post) -> bool
-    ensures { result ≡ post_fits (M.Model.meaning model.now) limits.now number post.now }
+    ensures { result ≡ post_fits (M.meaning model.now) limits.now number post.now }
 {
     post.process < model.size() as u64 && post.time < limits.end && number < limits.most
 }
@@ -69,7 +69,7 @@ fn accept<M: Model>(
     limits: &Limits,
     posts: &[Post],
 ) -> Result<VecDeque<Event>, RunError>
-    ensures { MatchResult result (λ v. (first_unfit (M.Model.meaning model.now) limits.now 0 posts.now ≡ None) × (v.items ≡ queued_all (posted 0 posts.now) [])) (Fails (M.Model.meaning model.now) limits.now posts.now) }
+    ensures { MatchResult result (λ v. (first_unfit (M.meaning model.now) limits.now 0 posts.now ≡ None) × (v.items ≡ queued_all (posted 0 posts.now) [])) (Fails (M.meaning model.now) limits.now posts.now) }
 {
     let mut waiting = VecDeque::new(heap);
     for i in 0..posts.len() {
@@ -91,7 +91,7 @@ fn accept<M: Model>(
 
 // Every process in its initial state, with nothing sent.
 pub fn fresh_processes<M: Model>(model: &M) -> [Process; PROCESSES]
-    ensures { result ≡ initial_processes (M.Model.meaning model.now) }
+    ensures { result ≡ initial_processes (M.meaning model.now) }
 {
     let state = State {
         w0: 0,
@@ -144,7 +144,7 @@ fn write_lines<M: Model>(
     budget: u64,
     mut waiting: VecDeque<Event>,
 ) -> Result<Vec<Line>, RunError>
-    ensures { MatchResult result (λ v. v.items ≡ lines_from (M.Model.meaning model.now) limits.now budget (initial_processes (M.Model.meaning model.now)) waiting.items) (λ e. e ≡ NoMemory) }
+    ensures { MatchResult result (λ v. v.items ≡ lines_from (M.meaning model.now) limits.now budget (initial_processes (M.meaning model.now)) waiting.items) (λ e. e ≡ NoMemory) }
 {
     let mut lines = Vec::new(heap);
     let mut processes = fresh_processes(model);
@@ -180,7 +180,7 @@ pub fn run<M: Model>(
     limits: &Limits,
     posts: &[Post],
 ) -> Result<Vec<Line>, RunError>
-    ensures { MatchResult result (λ v. (first_unfit (M.Model.meaning model.now) limits.now 0 posts.now ≡ None) × (v.items ≡ sequential_run (M.Model.meaning model.now) limits.now (posted 0 posts.now))) (Fails (M.Model.meaning model.now) limits.now posts.now) }
+    ensures { MatchResult result (λ v. (first_unfit (M.meaning model.now) limits.now 0 posts.now ≡ None) × (v.items ≡ sequential_run (M.meaning model.now) limits.now (posted 0 posts.now))) (Fails (M.meaning model.now) limits.now posts.now) }
 {
     let waiting = accept(heap, model, limits, posts)?;
     let budget = posts.len() as u64 + 32 * limits.most;

@@ -1,6 +1,6 @@
 // Sending, posting, stepping and collecting.
 
-ghost use Rattle.std.specs.Prelude.{◌≡◌, ◌+◌, ◌^◌, ◌<◌, min, List, get_or, slice_index_or, slice_set};
+ghost use Rattle.std.specs.Prelude.{◌≡◌, ◌+◌, ◌^◌, ◌<◌, min, List, slice_index_or, slice_set};
 ghost use Rattle.model.specs.Meaning.{many, listed};
 ghost use Rattle.pool.specs.declared.base.Place.{Place};
 ghost use Rattle.pool.specs.declared.base.Place.TheVariants.{Out};
@@ -91,7 +91,7 @@ impl Tables {
 
     // The event in the buffer b, and its process as it stands.
     pub fn due(&self, b: u8) -> (Event, Process)
-        ensures event { result.0 ≡ (get_or self.now.records b blank).event }
+        ensures event { result.0 ≡ (slice_index_or self.now.records b blank).event }
         ensures process { result.1 ≡ slice_index_or self.now.processes result.0.process nobody }
         ensures place { result.0.process < 32 }
     {
@@ -104,7 +104,7 @@ impl Tables {
         requires worker { w < 8 }
         requires aimed { Aimed o.now.sends }
         requires many { many bs ≡ many o.now.sends }
-        requires fits { (get_or self.old.processes (get_or self.old.records b blank).event.process nobody).count + many o.now.sends < 2 ^ 64 }
+        requires fits { (slice_index_or self.old.processes (slice_index_or self.old.records b blank).event.process nobody).count + many o.now.sends < 2 ^ 64 }
         ensures posted { self.new.posted ≡ self.old.posted }
         ensures machine { (pl : List Place) → machine_of self.new (outs (listed bs) pl) ≡ stepped_by u.now w b o.now bs (machine_of self.old pl) }
     {
