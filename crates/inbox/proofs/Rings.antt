@@ -41,10 +41,10 @@ ring_kept xs h (suc n) m v l a b =
 pub ring_push : (xs : List ℕ) (h n v : ℕ) → h < 256 → n < 256 → length xs ≡ 256 → ring_of (set xs ((h + n) % 256) v) h (n + 1) ≡ ring_of xs h n ++ v ∷ []
 ring_push xs h n v l m full =
     let p = (h + n) % 256 in
-    let in-range : (h + n) % 256 < length xs = omega arith in
+    let in_range : (h + n) % 256 < length xs = omega arith in
     let a = ring_last (set xs p v) h n l in
     let b = ring_kept xs h n n v l (omega arith) m in
-    let d = get_or-set_same xs p v 0 in-range in
+    let d = get_or-set_same xs p v 0 in_range in
     rw add-one cc
 
 pub ring_enter : (xs : List ℕ) (h n v : ℕ) → h < 256 → n < 256 → length xs ≡ 256 → ring_of (set xs ((h + n) % 256) v) h (n + 1) ≡ entered v (ring_of xs h n)

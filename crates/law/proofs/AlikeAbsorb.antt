@@ -22,9 +22,9 @@ module _ (l : Lanes) (u : Plan) (w b : ℕ) {f g : ℕ → ℕ} (s s' : Machine)
       let r = rollback u w m.event.process (past false m.event) z in
       absorbed_to (with_message c (waiting m) r.machine) 0 r.undone r.cancelled
 
-  arrived_Alike : Absorbs f g (arrived u w b s) (arrived u w (f b) s')
+  arrived-Alike : Absorbs f g (arrived u w b s) (arrived u w (f b) s')
   unfolding arrived
-  arrived_Alike = subst (Absorbs f g (arrived u w b s)) (sym (ap (arrived_as (f b) s') (A.named.is b x))) (record {
+  arrived-Alike = subst (Absorbs f g (arrived u w b s)) (sym (ap (arrived_as (f b) s') (A.named.is b x))) (record {
     alike = Alike-message R.alike b (waiting (at s b)) (waiting (renamed f (at s b))) (R.eased.live b ∙ x) refl (λ _. refl);
     annihilated = refl;
     undone = R.undone;
@@ -50,8 +50,8 @@ module _ (l : Lanes) (u : Plan) (w b : ℕ) {f g : ℕ → ℕ} (s s' : Machine)
   unfolding annihilated
   annihilated_still c z m h t = rw (ap (λ (y : Message). is_done y.phase) h ∙ t, annihilated) refl
 
-  annihilated_Alike : Absorbs f g (annihilated l u w b s) (annihilated l u w (f b) s')
-  annihilated_Alike = elim (cases_Bool (dones s b)) [
+  annihilated-Alike : Absorbs f g (annihilated l u w b s) (annihilated l u w (f b) s')
+  annihilated-Alike = elim (cases_Bool (dones s b)) [
     | inl t ↦ rw (annihilated_done b s (at s b) refl t, annihilated_done (f b) s' (renamed f (at s b)) (A.named.is b x) t)
         (record { alike = Alike-freed R.alike l u b (R.eased.live b ∙ x); annihilated = refl; undone = R.undone; cancelled = R.cancelled })
     | inr n ↦ rw (annihilated_still b s (at s b) refl n, annihilated_still (f b) s' (renamed f (at s b)) (A.named.is b x) n)
@@ -95,8 +95,8 @@ module _ (l : Lanes) (u : Plan) (w : ℕ) where
       go : (o : Option ℕ) → first (worker s w).inbox ≡ o → Absorbs f g (absorbed l u w s) (absorbed l u w s')
       go None h = rw (absorbed_none s h, absorbed_none s' (there h)) (record { alike = A; annihilated = refl; undone = refl; cancelled = refl })
       go (Some b) h = elim (cases_Bool (at s b).cancelled) [
-        | inl t ↦ rw (absorbed_gone s b h t, absorbed_gone s' (f b) (there h) (rw (A.named.is b x) t)) (annihilated_Alike l u w b (left w s) (left w s') (Sound-left S) (Alike-left A w) (left_lives s b x))
-        | inr n ↦ rw (absorbed_comes s b h n, absorbed_comes s' (f b) (there h) (rw (A.named.is b x) n)) (arrived_Alike l u w b (left w s) (left w s') (Sound-left S) (Alike-left A w) (left_lives s b x))
+        | inl t ↦ rw (absorbed_gone s b h t, absorbed_gone s' (f b) (there h) (rw (A.named.is b x) t)) (annihilated-Alike l u w b (left w s) (left w s') (Sound-left S) (Alike-left A w) (left_lives s b x))
+        | inr n ↦ rw (absorbed_comes s b h n, absorbed_comes s' (f b) (there h) (rw (A.named.is b x) n)) (arrived-Alike l u w b (left w s) (left w s') (Sound-left S) (Alike-left A w) (left_lives s b x))
       ]
         where
           x : lives s b ≡ true

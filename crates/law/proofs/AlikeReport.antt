@@ -109,8 +109,8 @@ over-Alike u A = record {
   gvt = least_report-Alike A u.workers;
 }
 
-pub reported_Alike : {f g : ℕ → ℕ} {s s' : Machine} (u : Plan) (w : ℕ) → ((c : ℕ) → In c (worker s w).inbox → lives s c ≡ true) → Alike f g s s' → Alike f g (reported u w s) (reported u w s')
-reported_Alike {f} {g} {s} {s'} u w mail A = go (missing (told u w s).workers u.workers) refl
+pub reported-Alike : {f g : ℕ → ℕ} {s s' : Machine} (u : Plan) (w : ℕ) → ((c : ℕ) → In c (worker s w).inbox → lives s c ≡ true) → Alike f g s s' → Alike f g (reported u w s) (reported u w s')
+reported-Alike {f} {g} {s} {s'} u w mail A = go (missing (told u w s).workers u.workers) refl
   where
     T : Alike f g (told u w s) (told u w s')
     T = told-Alike A u w mail

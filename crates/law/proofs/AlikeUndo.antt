@@ -87,8 +87,8 @@ undone_is : (u : Plan) (w b : ℕ) (s : Machine) (m : Message) → at s b ≡ m 
 unfolding undone
 undone_is u w b s m h = ap (λ (x : Message). cancelled_all u w (listed x.sent) (with_message b (waiting x) (with_process x.event.process x.snapshot s))) h
 
-undone_Alike : {f g : ℕ → ℕ} {s s' : Machine} (u : Plan) (w b : ℕ) → dones s b ≡ true → Sound s → Alike f g s s' → Alike f g (undone u w b s) (undone u w (f b) s') × Eased s (undone u w b s)
-undone_Alike {f} {g} {s} {s'} u w b d S A = rw (undone_is u w b s (at s b) refl, undone_is u w (f b) s' (renamed f (at s b)) (A.named.is b l), listed-mapped f (at s b).sent) (r.0, Eased-more E r.1)
+undone-Alike : {f g : ℕ → ℕ} {s s' : Machine} (u : Plan) (w b : ℕ) → dones s b ≡ true → Sound s → Alike f g s s' → Alike f g (undone u w b s) (undone u w (f b) s') × Eased s (undone u w b s)
+undone-Alike {f} {g} {s} {s'} u w b d S A = rw (undone_is u w b s (at s b) refl, undone_is u w (f b) s' (renamed f (at s b)) (A.named.is b l), listed-mapped f (at s b).sent) (r.0, Eased-more E r.1)
   where
     phase : (at s b).phase ≡ Done
     phase = is_done_lem (at s b).phase d
@@ -169,7 +169,7 @@ module _ (u : Plan) (w p : ℕ) (past : Event → Bool) where
           l = rw (is_done_lem (at s d).phase q) refl
 
           U : Alike f g (undone u w d s) (undone u w (f d) s') × Eased s (undone u w d s)
-          U = undone_Alike u w d q S A
+          U = undone-Alike u w d q S A
 
           R : Rolls f g (undone u w d s) (rolled k u w p past (undone u w d s)) (rolled k u w p past (undone u w (f d) s'))
           R = r (undone u w d s) (undone u w (f d) s') (Sound-eased U.1 S) U.0

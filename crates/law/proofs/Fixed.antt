@@ -28,7 +28,7 @@ use Rattle.law.proofs.Alike.{carried, first_map, Alike, worker_there, Alike-outs
 use Rattle.law.proofs.AlikeAbsorb.{Absorbs, absorbed-Alike}
 use Rattle.law.proofs.AlikeCollect.{Collects, collected-Alike, remaining-Alike}
 use Rattle.law.proofs.AlikeDraw.{Closed, f₁, g₁, sent-Alike, doing-Alike, stepped-Alike}
-use Rattle.law.proofs.AlikeReport.{opened-Alike, missing-Alike, reported_Alike}
+use Rattle.law.proofs.AlikeReport.{opened-Alike, missing-Alike, reported-Alike}
 use Rattle.law.proofs.AlikeSearch.{foremost-Alike}
 use Rattle.law.proofs.AlikeUndo.{Sound}
 use Rattle.law.proofs.Drawn.{Drawn-first}
@@ -59,16 +59,16 @@ module _ (W : World) (P : Proper W) where
     next_lives : (w b : ℕ) → next W.plan w s ≡ Some b → lives s b ≡ true
     next_lives w b h = (pending_stands (at s b) (Ready-parts W.plan w (at s b) (next_picks W.plan w s b h).passes).0).0
 
-    first_Alike : (w : ℕ) → first (worker s' w).inbox ≡ carried f (first (worker s w).inbox)
-    first_Alike w = ap (λ (x : Worker). first x.inbox) (worker_there A w) ∙ first_map f (worker s w).inbox
+    first-Alike : (w : ℕ) → first (worker s' w).inbox ≡ carried f (first (worker s w).inbox)
+    first-Alike w = ap (λ (x : Worker). first x.inbox) (worker_there A w) ∙ first_map f (worker s w).inbox
 
     some_carried : (o : Option ℕ) → is_some (carried f o) ≡ is_some o
     some_carried None = refl
     some_carried (Some b) = refl
 
-    enough_Alike : (all ls : List ℕ) → enough s'.places all ls ≡ enough s.places all ls
-    enough_Alike all [] = refl
-    enough_Alike all (l ∷ ls) = rw (A.pooled.lanes l, enough_Alike all ls) refl
+    enough-Alike : (all ls : List ℕ) → enough s'.places all ls ≡ enough s.places all ls
+    enough-Alike all [] = refl
+    enough-Alike all (l ∷ ls) = rw (A.pooled.lanes l, enough-Alike all ls) refl
 
     draws-Alike : (c : Call) → draws W s' c ≡ draws W s c
     unfolding draws
@@ -84,12 +84,12 @@ module _ (W : World) (P : Proper W) where
     draws-Alike (Collect k) = refl
 
     short-Alike : (c : Call) → short W s' c ≡ short W s c
-    short-Alike c = ap not (ap (λ (ls : List ℕ). enough s'.places ls ls) (draws-Alike c) ∙ enough_Alike (draws W s c) (draws W s c))
+    short-Alike c = ap not (ap (λ (ls : List ℕ). enough s'.places ls ls) (draws-Alike c) ∙ enough-Alike (draws W s c) (draws W s c))
 
     refusal-Alike : (c : Call) → refusal W s' c ≡ refusal W s c
     unfolding refusal
     refusal-Alike (Post p t x) = rw (short-Alike (Post p t x), A.gvt, A.posted) refl
-    refusal-Alike (Absorb w) = rw (first_Alike w, some_carried (first (worker s w).inbox)) refl
+    refusal-Alike (Absorb w) = rw (first-Alike w, some_carried (first (worker s w).inbox)) refl
     refusal-Alike (Step w) = rw (short-Alike (Step w), next-Alike w refl, some_carried (next W.plan w s)) refl
     refusal-Alike Round = rw A.rounding refl
     refusal-Alike (Report w) = rw (A.rounding, ap (λ (x : Worker). x.report) (worker_there A w)) refl
@@ -99,7 +99,7 @@ module _ (W : World) (P : Proper W) where
     absorbs w = absorbed-Alike W.lanes W.plan w s s' sound (closed.mail w) A
 
     reports-Alike : (w : ℕ) → Alike f g (reported W.plan w s) (reported W.plan w s')
-    reports-Alike w = reported_Alike W.plan w (closed.mail w) A
+    reports-Alike w = reported-Alike W.plan w (closed.mail w) A
 
     collects : (k : ℕ) → Collects f g (collected W.lanes W.plan k s) (collected W.lanes W.plan k s')
     collects k = collected-Alike W.lanes W.plan k s s' sound.separate A
@@ -147,11 +147,11 @@ module _ (W : World) (P : Proper W) where
     does-Alike (Report w) bs bs' D D' = (f, g, reports-Alike w)
     does-Alike (Collect k) bs bs' D D' = (f, g, (collects k).alike)
 
-    call_Alike : {c : Call} {a a' : Answer (List Line)} {t t' : Machine} → Does W s c a t → Does W s' c a' t' → (a ≡ a') × ((f' : ℕ → ℕ) × (g' : ℕ → ℕ) × Alike f' g' t t')
-    call_Alike {c} (refuses n h) (refuses n' h') = (let e = refusal-Alike c in let z : n ≡ n' = cc in ap Refused z, (f, g, A))
-    call_Alike {c} (refuses n h) (acts bs' r' D') = absurd (some_none (sym r' ∙ (refusal-Alike c ∙ h)))
-    call_Alike {c} (acts bs r D) (refuses n' h') = absurd (some_none (sym r ∙ (sym (refusal-Alike c) ∙ h')))
-    call_Alike {c} (acts bs r D) (acts bs' r' D') = (sym (answers-Alike c), does-Alike c bs bs' D (rw (draws-Alike c) at D'))
+    call-Alike : {c : Call} {a a' : Answer (List Line)} {t t' : Machine} → Does W s c a t → Does W s' c a' t' → (a ≡ a') × ((f' : ℕ → ℕ) × (g' : ℕ → ℕ) × Alike f' g' t t')
+    call-Alike {c} (refuses n h) (refuses n' h') = (let e = refusal-Alike c in let z : n ≡ n' = cc in ap Refused z, (f, g, A))
+    call-Alike {c} (refuses n h) (acts bs' r' D') = absurd (some_none (sym r' ∙ (refusal-Alike c ∙ h)))
+    call-Alike {c} (acts bs r D) (refuses n' h') = absurd (some_none (sym r ∙ (sym (refusal-Alike c) ∙ h')))
+    call-Alike {c} (acts bs r D) (acts bs' r' D') = (sym (answers-Alike c), does-Alike c bs bs' D (rw (draws-Alike c) at D'))
 
   -- ---- runs
 
@@ -161,7 +161,7 @@ module _ (W : World) (P : Proper W) where
   fixed_run f g (goes d R) rests e H A = absurd (let n = ap length e in omega arith)
   fixed_run f g (goes {c = c} {a = a} {r = r} d R) (goes {s = s'} {s₁ = t'} {c = c'} {a = a'} {r = r'} d' R') e H A =
       let q : c ≡ c' = ap (λ (xs : List Call). get_or xs 0 Round) e in
-      let x = call_Alike H.base H.kept A d (subst (λ (y : Call). Does W s' y a' t') (sym q) d') in
+      let x = call-Alike H.base H.kept A d (subst (λ (y : Call). Does W s' y a' t') (sym q) d') in
       let i = fixed_run x.1.0 x.1.1 R R' (ap (drop 1) e) (advance W P d H).history x.1.2 in
       (ap₂ (λ (y : Call × Answer (List Line)) (ys : Transcript). y ∷ ys) (ap₂ (λ (y : Call) (v : Answer (List Line)). let w : Call × Answer (List Line) = (y, v) in w) q x.0) i.0, i.1)
 

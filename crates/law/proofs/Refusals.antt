@@ -1,5 +1,5 @@
 -- A call that is not refused has passed every test of its refusals.
-use Rattle.std.proofs.Common.{◌≡◌, ℕ, ◌<◌, ◌≤◌, Bool, true, false, cond, not, eqb, ltb, leb, is_some as option_is_some, Some, None, Option, refl, arith}
+use Rattle.std.proofs.Common.{◌≡◌, ℕ, ◌<◌, ◌≤◌, Bool, true, false, cond, not, eqb, ltb, leb, is_some, Some, None, Option, refl, arith}
 use Rattle.std.proofs.lemmas.Bool.{not-false, leb-false, ltb-false, eqb-false}
 use Rattle.machine.specs.Calls.{World, refusal, draws, enough}
 use Rattle.machine.specs.Machine.{Machine, next}
@@ -13,13 +13,13 @@ passed : (t : Bool) (r : Refusal) (o : Option Refusal) → cond t (Some r) o ≡
 passed true r o h = absurd (grind arith)
 passed false r o h = (refl, h)
 
-is_none : (o : Option ℕ) → option_is_some o ≡ false → o ≡ None
-is_none None h = refl
-is_none (Some t) h = absurd (grind arith)
+is_none_lem : (o : Option ℕ) → is_some o ≡ false → o ≡ None
+is_none_lem None h = refl
+is_none_lem (Some t) h = absurd (grind arith)
 
-is_some : (o : Option ℕ) → option_is_some o ≡ true → (t : ℕ) × (o ≡ Some t)
-is_some None h = absurd (grind arith)
-is_some (Some t) h = (t, refl)
+is_some_lem : (o : Option ℕ) → is_some o ≡ true → (t : ℕ) × (o ≡ Some t)
+is_some_lem None h = absurd (grind arith)
+is_some_lem (Some t) h = (t, refl)
 
 module _ (W : World) (s : Machine) where
   -- the receiver is a process, the time is neither before GVT nor past the end, and the cap is not reached
@@ -42,8 +42,8 @@ module _ (W : World) (s : Machine) where
   step_passed w h =
       let a = passed (leb W.plan.workers w) _ _ h in
       let b = passed _ _ _ a.1 in
-      let c = passed (not (option_is_some (next W.plan w s))) _ _ b.1 in
-      (leb-false _ _ a.0, is_some (next W.plan w s) (not-false _ c.0))
+      let c = passed (not (is_some (next W.plan w s))) _ _ b.1 in
+      (leb-false _ _ a.0, is_some_lem (next W.plan w s) (not-false _ c.0))
 
   -- a round is open, and the worker has not reported in it
   pub report_passed : (w : ℕ) → refusal W s (Report w) ≡ None → (w < W.plan.workers) × (s.rounding ≡ true) × (reports s w ≡ None)
@@ -51,8 +51,8 @@ module _ (W : World) (s : Machine) where
   report_passed w h =
       let a = passed (leb W.plan.workers w) _ _ h in
       let b = passed (not s.rounding) _ _ a.1 in
-      let c = passed (option_is_some (reports s w)) _ _ b.1 in
-      (leb-false _ _ a.0, not-false _ b.0, is_none (reports s w) c.0)
+      let c = passed (is_some (reports s w)) _ _ b.1 in
+      (leb-false _ _ a.0, not-false _ b.0, is_none_lem (reports s w) c.0)
 
   -- every lane that the call draws from holds as many buffers as it asks for
   pub stocked : (c : Call) → refusal W s c ≡ None → enough s.places (draws W s c) (draws W s c) ≡ true

@@ -221,27 +221,27 @@ module _ (u : Plan) (w : ℕ) where
   all_posted [] s = refl
   all_posted (b ∷ bs) s = all_posted bs (cancelled u w b s) ∙ cancelled-posted b s
 
-  undone_posted : (b : ℕ) (s : Machine) → (undone u w b s).posted ≡ s.posted
+  undone-posted : (b : ℕ) (s : Machine) → (undone u w b s).posted ≡ s.posted
   unfolding undone
-  undone_posted b s = all_posted (listed (at s b).sent) (restored b s)
+  undone-posted b s = all_posted (listed (at s b).sent) (restored b s)
 
   module _ (p : ℕ) (pass : Event → Bool) where
     turn-posted : (k : ℕ) (s : Machine) → ((t : Machine) → (rolled k u w p pass t).machine.posted ≡ t.posted) → (o : Option ℕ) → latest p pass s ≡ o → (rolled (suc k) u w p pass s).machine.posted ≡ s.posted
     turn-posted k s h None e = ap (λ (r : Rolled). r.machine.posted) (rolled_none u w p pass (suc k) s e)
-    turn-posted k s h (Some b) e = ap (λ (r : Rolled). r.machine.posted) (rolled_some u w p pass k b 0 0 s e) ∙ h (undone u w b s) ∙ undone_posted b s
+    turn-posted k s h (Some b) e = ap (λ (r : Rolled). r.machine.posted) (rolled_some u w p pass k b 0 0 s e) ∙ h (undone u w b s) ∙ undone-posted b s
 
     rolled-posted : (k : ℕ) (s : Machine) → (rolled k u w p pass s).machine.posted ≡ s.posted
     unfolding rolled
     rolled-posted zero s = refl
     rolled-posted (suc k) s = turn-posted k s (rolled-posted k) (latest p pass s) refl
 
-  arrived_posted : (b : ℕ) (s : Machine) → (arrived u w b s).machine.posted ≡ s.posted
+  arrived-posted : (b : ℕ) (s : Machine) → (arrived u w b s).machine.posted ≡ s.posted
   unfolding arrived
-  arrived_posted b s = rolled-posted (at s b).event.process (past false (at s b).event) 256 s
+  arrived-posted b s = rolled-posted (at s b).event.process (past false (at s b).event) 256 s
 
-  annihilated_posted : (l : Lanes) (b : ℕ) (s : Machine) → (annihilated l u w b s).machine.posted ≡ s.posted
+  annihilated-posted : (l : Lanes) (b : ℕ) (s : Machine) → (annihilated l u w b s).machine.posted ≡ s.posted
   unfolding annihilated freed
-  annihilated_posted l b s = elim (cases_Bool (is_done (at s b).phase)) as (λ _. (annihilated l u w b s).machine.posted ≡ s.posted) [
+  annihilated-posted l b s = elim (cases_Bool (is_done (at s b).phase)) as (λ _. (annihilated l u w b s).machine.posted ≡ s.posted) [
     | inl e ↦ rw (e, annihilated) (rolled-posted (at s b).event.process (past true (at s b).event) 256 s)
     | inr e ↦ rw (e, annihilated)
   ]
@@ -260,8 +260,8 @@ module _ (u : Plan) (w : ℕ) where
   unfolding absorbed left
   absorbed_by l s None e = rw (e, absorbed)
   absorbed_by l s (Some b) e = elim (cases_Bool (at s b).cancelled) as (λ _. (absorbed l u w s).machine.posted ≡ s.posted) [
-    | inl f ↦ rw (e, f, absorbed) (annihilated_posted l b (left w s))
-    | inr f ↦ rw (e, f, absorbed) (arrived_posted b (left w s))
+    | inl f ↦ rw (e, f, absorbed) (annihilated-posted l b (left w s))
+    | inr f ↦ rw (e, f, absorbed) (arrived-posted b (left w s))
   ]
 
   pub absorbed-posted : (l : Lanes) (s : Machine) → (absorbed l u w s).machine.posted ≡ s.posted

@@ -44,8 +44,8 @@ lane_low b share h s = (div-lt_iff_lt-mul {k = share} {x = b} {y = 8} (omega ari
 pub length-dealt : (share : ℕ) → length (dealt share) ≡ 256
 length-dealt share = length-map-range_with_len (λ b. Lane (b / share)) 0 256
 
-pub dealt_at : (share b : ℕ) → b < 256 → place_at (dealt share) b ≡ Lane (b / share)
-dealt_at share b h = get_or-map-range_with_len (λ n. Lane (n / share)) 0 256 b b Out h (omega arith)
+pub place_at-dealt : (share b : ℕ) → b < 256 → place_at (dealt share) b ≡ Lane (b / share)
+place_at-dealt share b h = get_or-map-range_with_len (λ n. Lane (n / share)) 0 256 b b Out h (omega arith)
 
 -- dealt buffers are all in
 pub lent-dealt : (f : ℕ → ℕ) (a n : ℕ) → lent (map (λ b. Lane (f b)) (range_with_len a n)) ≡ 0

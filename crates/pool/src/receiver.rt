@@ -3,7 +3,7 @@
 ghost use Rattle.std.specs.Prelude.{◌≡◌, ◌*◌, ◌/◌, ◌<◌, ◌≤◌, nat_le};
 ghost use Rattle.std.proofs.Common.{ap, ◌∙◌, arith, rules};
 ghost use Rattle.pool.specs.Pools.{receiver_lanes};
-ghost use Rattle.pool.specs.Stocking.{lent-dealt, length-dealt, dealt_at};
+ghost use Rattle.pool.specs.Stocking.{lent-dealt, length-dealt, place_at-dealt};
 ghost use Rattle.std.proofs.lemmas.Bool.{and_parts, leb-true};
 ghost use Rattle.pool.specs.declared.base.Place.TheVariants.{Lane};
 ghost use Rattle.pool.specs.Stacks.{dealt};
@@ -36,7 +36,7 @@ impl Pool for ReceiverPool {
         let low : j ≤ 7 = leb-true j 7 (and_parts (nat_le i 8) (nat_le j 7) h).1 in
         let lt : 32 * j < 256 = omega arith in
         let first : 32 * j / 32 ≡ j = omega arith in
-        held j (dealt 32) (32 * j) (let n = length-dealt 32 in omega arith) (dealt_at 32 (32 * j) lt ∙ ap Lane first) };
+        held j (dealt 32) (32 * j) (let n = length-dealt 32 in omega arith) (place_at-dealt 32 (32 * j) lt ∙ ap Lane first) };
 
     ghost low = { Prim.search rules };
 

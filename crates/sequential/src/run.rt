@@ -1,13 +1,12 @@
 // The sequential run in code.
 
-ghost use Rattle.std.specs.Prelude.{◌≡◌, ◌≤◌, List, [], ◌++◌, length, None, MatchResult, slice_index_or, slice_set};
+ghost use Rattle.std.specs.Prelude.{◌≡◌, ◌≤◌, List, [], ◌++◌, length, insert, None, MatchResult, slice_index_or, slice_set};
 ghost use Rattle.std.specs.VecDeque.{deque_len};
 ghost use Rattle.model.specs.Meaning.{listed};
 ghost use Rattle.sequential.specs.Events.{nobody};
 ghost use Rattle.sequential.specs.Posts.{Fails, first_unfit, post_fits, posted};
 ghost use Rattle.sequential.specs.Run.{BudgetSuffices, fresh as initial_processes, lines as lines_from, queued, queued_all, run as sequential_run};
 ghost use Rattle.sequential.specs.declared.base.RunError.TheVariants.{NoMemory};
-ghost use Rattle.std.specs.List.{insert};
 
 use crate::apply::apply;
 use crate::base::{Event, Limits, Line, Post, Process, RunError};
