@@ -1,4 +1,5 @@
-// Runs the stored scripts, readable and spoiled, compares what they print with what they should, and says how many agree.
+// Runs the stored scripts, readable and spoiled, compares what they print with what they should, and says how many
+// agree.
 
 #![tactic(auto)]
 

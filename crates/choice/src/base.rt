@@ -86,7 +86,8 @@ fn better_of<C: Choice>(
     requires placed { Placed records.now }
     requires mirrored { Mirrored phases.now records.now }
     requires inside { i + 16 ≤ 256 }
-    ensures { left (passes (C.ok choice.now)) (C.before choice.now) records.now (i + 16) result ≡ left (passes (C.ok choice.now)) (C.before choice.now) records.now i so_far }
+    ensures { left (passes (C.ok choice.now)) (C.before choice.now) records.now (i + 16) result
+        ≡ left (passes (C.ok choice.now)) (C.before choice.now) records.now i so_far }
 {
     let phase = choice.phase();
     let has = has_phase(phases, i, phase);
@@ -122,7 +123,8 @@ fn count_of<C: Choice>(choice: &C, phases: &[Phase; 256], records: &[Message; 25
     requires placed { Placed records.now }
     requires mirrored { Mirrored phases.now records.now }
     requires inside { i + 16 ≤ 256 }
-    ensures sum { result + counted (passes (C.ok choice.now)) (drop (i + 16) records.now) ≡ counted (passes (C.ok choice.now)) (drop i records.now) }
+    ensures sum { result + counted (passes (C.ok choice.now)) (drop (i + 16) records.now)
+        ≡ counted (passes (C.ok choice.now)) (drop i records.now) }
     ensures few { result ≤ 16 }
 {
     let phase = choice.phase();
@@ -163,7 +165,8 @@ fn least_of<C: Choice>(
     requires placed { Placed records.now }
     requires mirrored { Mirrored phases.now records.now }
     requires inside { i + 16 ≤ 256 }
-    ensures { least_time (passes (C.ok choice.now)) (drop (i + 16) records.now) result ≡ least_time (passes (C.ok choice.now)) (drop i records.now) t }
+    ensures { least_time (passes (C.ok choice.now)) (drop (i + 16) records.now) result
+        ≡ least_time (passes (C.ok choice.now)) (drop i records.now) t }
 {
     let phase = choice.phase();
     let has = has_phase(phases, i, phase);

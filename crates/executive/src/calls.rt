@@ -1,4 +1,5 @@
-// The six calls. Each is refused with the first refusal that fits and changes nothing, or answers and does what the machine does.
+// The six calls. Each is refused with the first refusal that fits and changes nothing, or answers and does what the
+// machine does.
 
 ghost use Rattle.std.specs.Prelude.{◌≡◌, ◌≤◌, length, take, drop};
 ghost use Rattle.executive.specs.World.{DonesLent, Lent, Makes, absorb_answer, post_answer, report_answer, round_answer, step_answer};
@@ -25,7 +26,8 @@ impl<M: Model, P: Pool> Executive<M, P> {
     pub fn post(&mut self, process: u64, time: u64, payload: u64) -> Result<u64, Refusal>
         ensures model { self.new.model ≡ self.old.model }
         ensures plan { self.new.plan ≡ self.old.plan }
-        ensures does { Makes (M.meaning self.old.model) P.lanes self.old.plan self.old.tables (P.places self.old.pool) (Post process time payload) (post_answer result) self.new.tables (P.places self.new.pool) }
+        ensures does { Makes (M.meaning self.old.model) P.lanes self.old.plan self.old.tables (P.places self.old.pool)
+            (Post process time payload) (post_answer result) self.new.tables (P.places self.new.pool) }
     {
         if process >= self.model.size() as u64 {
             return Err(Refusal::NoProcess);
@@ -50,7 +52,8 @@ impl<M: Model, P: Pool> Executive<M, P> {
     pub fn round(&mut self) -> Result<u8, Refusal>
         ensures model { self.new.model ≡ self.old.model }
         ensures plan { self.new.plan ≡ self.old.plan }
-        ensures does { Makes (M.meaning self.old.model) P.lanes self.old.plan self.old.tables (P.places self.old.pool) Round (round_answer result) self.new.tables (P.places self.new.pool) }
+        ensures does { Makes (M.meaning self.old.model) P.lanes self.old.plan self.old.tables (P.places self.old.pool)
+            Round (round_answer result) self.new.tables (P.places self.new.pool) }
     {
         if self.tables.rounding {
             return Err(Refusal::RoundOpen);
@@ -63,7 +66,8 @@ impl<M: Model, P: Pool> Executive<M, P> {
     pub fn report(&mut self, worker: u64) -> Result<(u8, u64), Refusal>
         ensures model { self.new.model ≡ self.old.model }
         ensures plan { self.new.plan ≡ self.old.plan }
-        ensures does { Makes (M.meaning self.old.model) P.lanes self.old.plan self.old.tables (P.places self.old.pool) (Report worker) (report_answer result) self.new.tables (P.places self.new.pool) }
+        ensures does { Makes (M.meaning self.old.model) P.lanes self.old.plan self.old.tables (P.places self.old.pool)
+            (Report worker) (report_answer result) self.new.tables (P.places self.new.pool) }
     {
         if worker >= self.plan.workers as u64 {
             return Err(Refusal::NoWorker);
@@ -83,7 +87,9 @@ impl<M: Model, P: Pool> Executive<M, P> {
     pub fn absorb(&mut self, worker: u64) -> Result<(u64, u64, u64), Refusal>
         ensures model { self.new.model ≡ self.old.model }
         ensures plan { self.new.plan ≡ self.old.plan }
-        ensures does { Lent (machine_of self.old.tables (P.places self.old.pool)) → Makes (M.meaning self.old.model) P.lanes self.old.plan self.old.tables (P.places self.old.pool) (Absorb worker) (absorb_answer result) self.new.tables (P.places self.new.pool) }
+        ensures does { Lent (machine_of self.old.tables (P.places self.old.pool)) →
+            Makes (M.meaning self.old.model) P.lanes self.old.plan self.old.tables (P.places self.old.pool)
+            (Absorb worker) (absorb_answer result) self.new.tables (P.places self.new.pool) }
     {
         if worker >= self.plan.workers as u64 {
             return Err(Refusal::NoWorker);
@@ -106,7 +112,8 @@ impl<M: Model, P: Pool> Executive<M, P> {
     pub fn step(&mut self, worker: u64) -> Result<(u64, u8, u64), Refusal>
         ensures model { self.new.model ≡ self.old.model }
         ensures plan { self.new.plan ≡ self.old.plan }
-        ensures does { Makes (M.meaning self.old.model) P.lanes self.old.plan self.old.tables (P.places self.old.pool) (Step worker) (step_answer result) self.new.tables (P.places self.new.pool) }
+        ensures does { Makes (M.meaning self.old.model) P.lanes self.old.plan self.old.tables (P.places self.old.pool)
+            (Step worker) (step_answer result) self.new.tables (P.places self.new.pool) }
     {
         if worker >= self.plan.workers as u64 {
             return Err(Refusal::NoWorker);
@@ -132,7 +139,10 @@ impl<M: Model, P: Pool> Executive<M, P> {
         ensures plan { self.new.plan ≡ self.old.plan }
         ensures within { result ≤ length lines.old }
         ensures rest { drop result lines.new ≡ drop result lines.old }
-        ensures does { DonesLent (machine_of self.old.tables (P.places self.old.pool)) → collected_to (machine_of self.new.tables (P.places self.new.pool)) (take result lines.new) ≡ collected P.lanes self.old.plan (length lines.old) (machine_of self.old.tables (P.places self.old.pool)) }
+        ensures does { DonesLent (machine_of self.old.tables (P.places self.old.pool)) →
+            collected_to (machine_of self.new.tables (P.places self.new.pool)) (take result lines.new)
+            ≡ collected P.lanes self.old.plan (length lines.old)
+            (machine_of self.old.tables (P.places self.old.pool)) }
     {
         let n = lines.len();
         for i in 0..n {
@@ -149,13 +159,17 @@ impl<M: Model, P: Pool> Executive<M, P> {
         n
     }
 
-    // Collects lines into the caller's list, up to its length, and keeps the rest of it: lines written, and lines remaining.
+    // Collects lines into the caller's list, up to its length, and keeps the rest of it: lines written, and lines
+    // remaining.
     pub fn collect(&mut self, lines: &mut [Line]) -> (usize, u64)
         ensures model { self.new.model ≡ self.old.model }
         ensures plan { self.new.plan ≡ self.old.plan }
         ensures within { result.0 ≤ length lines.old }
         ensures rest { drop result.0 lines.new ≡ drop result.0 lines.old }
-        ensures does { Lent (machine_of self.old.tables (P.places self.old.pool)) → Makes (M.meaning self.old.model) P.lanes self.old.plan self.old.tables (P.places self.old.pool) (Collect (length lines.old)) (Collected (take result.0 lines.new) result.1) self.new.tables (P.places self.new.pool) }
+        ensures does { Lent (machine_of self.old.tables (P.places self.old.pool)) →
+            Makes (M.meaning self.old.model) P.lanes self.old.plan self.old.tables (P.places self.old.pool)
+            (Collect (length lines.old)) (Collected (take result.0 lines.new) result.1) self.new.tables
+            (P.places self.new.pool) }
     {
         let written = self.fill(lines);
         (written, self.tables.remaining())

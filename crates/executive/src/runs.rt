@@ -57,7 +57,12 @@ impl<M: Model, P: Pool> Executive<M, P> {
     fn gather(&mut self, heap: Global, most: u64) -> Result<(Vec<Line>, u64), AllocError>
         ensures model { self.new.model ≡ self.old.model }
         ensures plan { self.new.plan ≡ self.old.plan }
-        ensures does { MatchResult result (λ x. (Lent (machine_of self.old.tables (P.places self.old.pool)) → Makes (M.meaning self.old.model) P.lanes self.old.plan self.old.tables (P.places self.old.pool) (Collect most) (Collected x.0.items x.1) self.new.tables (P.places self.new.pool))) (λ _. machine_of self.new.tables (P.places self.new.pool) ≡ machine_of self.old.tables (P.places self.old.pool)) }
+        ensures does { MatchResult result
+            (λ x. (Lent (machine_of self.old.tables (P.places self.old.pool)) →
+            Makes (M.meaning self.old.model) P.lanes self.old.plan self.old.tables (P.places self.old.pool)
+            (Collect most) (Collected x.0.items x.1) self.new.tables (P.places self.new.pool)))
+            (λ _. machine_of self.new.tables (P.places self.new.pool)
+            ≡ machine_of self.old.tables (P.places self.old.pool)) }
     {
         let mut lines = vec![in heap; NO_LINE; most as usize]?;
         let (written, remaining) = self.collect(lines.as_mut_slice());
@@ -69,7 +74,12 @@ impl<M: Model, P: Pool> Executive<M, P> {
     pub fn make(&mut self, heap: Global, call: Call) -> Result<Answer<Vec<Line>>, AllocError>
         ensures model { self.new.model ≡ self.old.model }
         ensures plan { self.new.plan ≡ self.old.plan }
-        ensures does { MatchResult result (λ a. (Lent (machine_of self.old.tables (P.places self.old.pool)) → Makes (M.meaning self.old.model) P.lanes self.old.plan self.old.tables (P.places self.old.pool) call (answer_of a) self.new.tables (P.places self.new.pool))) (λ _. machine_of self.new.tables (P.places self.new.pool) ≡ machine_of self.old.tables (P.places self.old.pool)) }
+        ensures does { MatchResult result
+            (λ a. (Lent (machine_of self.old.tables (P.places self.old.pool)) →
+            Makes (M.meaning self.old.model) P.lanes self.old.plan self.old.tables (P.places self.old.pool) call
+            (answer_of a) self.new.tables (P.places self.new.pool)))
+            (λ _. machine_of self.new.tables (P.places self.new.pool)
+            ≡ machine_of self.old.tables (P.places self.old.pool)) }
     {
         Ok(match call {
             Call::Post(process, time, payload) => match self.post(process, time, payload) {
@@ -108,7 +118,9 @@ impl<M: Model, P: Pool> Executive<M, P> {
         ensures model { self.new.model ≡ self.old.model }
         ensures plan { self.new.plan ≡ self.old.plan }
         ensures answered { IfOk result (λ v. length v.items ≡ length calls.now) }
-        ensures runs { IfOk result (λ v. Goes (M.meaning self.old.model) P.lanes self.old.plan self.old.tables (P.places self.old.pool) (transcript_of calls.now v.items) self.new.tables (P.places self.new.pool)) }
+        ensures runs { IfOk result
+            (λ v. Goes (M.meaning self.old.model) P.lanes self.old.plan self.old.tables (P.places self.old.pool)
+            (transcript_of calls.now v.items) self.new.tables (P.places self.new.pool)) }
     {
         let mut answers = Vec::new(heap);
         for i in 0..calls.len() {
@@ -123,9 +135,12 @@ impl<M: Model, P: Pool> Executive<M, P> {
         ensures model { self.new.model ≡ self.old.model }
         ensures plan { self.new.plan ≡ self.old.plan }
         ensures answered { IfOk result (λ x. length x.answers.items ≡ length calls.now) }
-        ensures runs { IfOk result (λ x. Goes (M.meaning self.old.model) P.lanes self.old.plan self.old.tables (P.places self.old.pool) (told calls.now x) self.new.tables (P.places self.new.pool)) }
+        ensures runs { IfOk result
+            (λ x. Goes (M.meaning self.old.model) P.lanes self.old.plan self.old.tables (P.places self.old.pool)
+            (told calls.now x) self.new.tables (P.places self.new.pool)) }
         ensures gvt { IfOk result (λ x. x.gvt ≡ self.new.tables.gvt) }
-        ensures out { IfOk result (λ x. (x.out ≡ count_by is_in_use self.new.tables.phases) × (length self.new.tables.phases ≡ 256)) }
+        ensures out { IfOk result
+            (λ x. (x.out ≡ count_by is_in_use self.new.tables.phases) × (length self.new.tables.phases ≡ 256)) }
     {
         let answers = self.make_all(heap, calls)?;
         let out = in_use(&self.tables.phases);
@@ -144,7 +159,8 @@ pub fn run_groups<M: Model + Drop, P: Pool + Drop>(
     first: &[Call],
     second: &[Call],
 ) -> Result<(Group, Group), AllocError>
-    ensures { IfOk result (λ x. LawfulGroups (world_of (M.meaning setup.model) P.lanes setup.plan) first.now second.now x.0 x.1) }
+    ensures { IfOk result
+        (λ x. LawfulGroups (world_of (M.meaning setup.model) P.lanes setup.plan) first.now second.now x.0 x.1) }
 {
     let mut executive = setup.start();
     let one = executive.make_group(heap, first)?;

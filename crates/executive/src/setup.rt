@@ -54,7 +54,9 @@ impl<M: Model, P: Pool> Setup<M, P> {
     // Replaces end (1 to 2^40), cap (1 to 2^32 - 1) and workers (1 to 8), and puts every process on worker 0 again.
     pub fn set(&mut self, end: u64, most: u64, workers: u64) -> Result<(), Refusal>
         ensures model { self.new.model ≡ self.old.model }
-        ensures plan { MatchResult result (λ _. (setting_fits end most workers ≡ true) × PlanHolds self.new.plan end most workers (replicate 32 0)) (λ e. (setting_fits end most workers ≡ false) × (e ≡ OutsideLimits) × (self.new.plan ≡ self.old.plan)) }
+        ensures plan { MatchResult result
+            (λ _. (setting_fits end most workers ≡ true) × PlanHolds self.new.plan end most workers (replicate 32 0))
+            (λ e. (setting_fits end most workers ≡ false) × (e ≡ OutsideLimits) × (self.new.plan ≡ self.old.plan)) }
     {
         let Ok(limits) = Limits::new(end, most) else {
             return Err(Refusal::OutsideLimits);
@@ -69,7 +71,12 @@ impl<M: Model, P: Pool> Setup<M, P> {
     // Moves a process to a worker.
     pub fn place(&mut self, process: u64, worker: u64) -> Result<(), Refusal>
         ensures model { self.new.model ≡ self.old.model }
-        ensures plan { MatchResult result (λ _. (process < (M.meaning self.old.model).size) × (worker < self.old.plan.workers) × Moved self.old.plan self.new.plan process worker) (λ e. (placing (M.meaning self.old.model) self.old.plan process worker ≡ Some e) × (self.new.plan ≡ self.old.plan)) }
+        ensures plan { MatchResult result
+            (λ _. (process < (M.meaning self.old.model).size)
+            × (worker < self.old.plan.workers)
+            × Moved self.old.plan self.new.plan process worker)
+            (λ e. (placing (M.meaning self.old.model) self.old.plan process worker ≡ Some e)
+            × (self.new.plan ≡ self.old.plan)) }
     {
         if process >= self.model.size() as u64 {
             return Err(Refusal::NoProcess);
@@ -91,7 +98,8 @@ impl<M: Model, P: Pool> Setup<M, P> {
     pub fn start(self) -> Executive<M, P>
         ensures model { result.model ≡ self.model }
         ensures plan { result.plan ≡ self.plan }
-        ensures machine { machine_of result.tables (P.places result.pool) ≡ started (M.meaning self.model) P.lanes self.plan }
+        ensures machine { machine_of result.tables (P.places result.pool)
+            ≡ started (M.meaning self.model) P.lanes self.plan }
     {
         let Setup {
             model,

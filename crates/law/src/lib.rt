@@ -5,14 +5,16 @@
 ghost use Rattle.law.specs.Law.{Lawful, QuietRoundsAreExact, AnswersFixedByCalls, EveryCallIsAnswered};
 ghost use Rattle.law.specs.Cases.{TheLawSpeaksOfRuns};
 
-// What was collected is a front of the sequential run, GVT is safe and never falls, every buffer is accounted for, and a collection tells what remains.
+// What was collected is a front of the sequential run, GVT is safe and never falls, every buffer is accounted for,
+// and a collection tells what remains.
 pub fn runs_are_lawful() -> u8
     ensures { Lawful }
 {
     0
 }
 
-// A round in which nothing but its reports is called sets GVT to exactly the earliest unsettled time; with nothing unsettled, the whole run can be collected.
+// A round in which nothing but its reports is called sets GVT to exactly the earliest unsettled time; with nothing
+// unsettled, the whole run can be collected.
 pub fn quiet_rounds_are_exact() -> u8
     ensures { QuietRoundsAreExact }
 {
@@ -33,7 +35,8 @@ pub fn every_call_is_answered() -> u8
     0
 }
 
-// There are proper worlds for both models over the lanes of both pools, and runs in them with rollbacks, an annihilation, a round and collections.
+// There are proper worlds for both models over the lanes of both pools, and runs in them with rollbacks, an
+// annihilation, a round and collections.
 pub fn the_law_speaks_of_runs() -> u8
     ensures { TheLawSpeaksOfRuns }
 {

@@ -14,7 +14,8 @@ pub enum Phase {
     Done,
 }
 
-// What one buffer holds. Of a done event: its process as it was before it, what it did, and the buffers of its messages.
+// What one buffer holds. Of a done event: its process as it was before it, what it did, and the buffers of its
+// messages.
 #[derive(Clone, Copy)]
 pub struct Message {
     pub phase: Phase,
@@ -25,7 +26,8 @@ pub struct Message {
     pub sent: Few<u8>,
 }
 
-// What a run is set up with besides its model and its pool: the limits, the number of workers, and the worker of each process.
+// What a run is set up with besides its model and its pool: the limits, the number of workers, and the worker of
+// each process.
 #[derive(Clone, Copy)]
 pub struct Plan {
     pub limits: Limits,

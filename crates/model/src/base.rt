@@ -73,10 +73,12 @@ pub trait Model {
     ghost sized: { (m : Self) → (1 ≤ (meaning m).size) × ((meaning m).size ≤ 32) };
 
     // fault codes are 1 to 255
-    ghost coded: { (m : Self) (p : ℕ) (s : Words) (t x c : ℕ) → (meaning m).reaction p s t x ≡ Fault c → (1 ≤ c) × (c ≤ 255) };
+    ghost coded: { (m : Self) (p : ℕ) (s : Words) (t x c : ℕ) → (meaning m).reaction p s t x ≡ Fault c →
+        (1 ≤ c) × (c ≤ 255) };
 
     // a process number counts modulo the size
     ghost starts_cyclic: { (m : Self) (p : ℕ) → (meaning m).initial p ≡ (meaning m).initial (p % (meaning m).size) };
 
-    ghost reacts_cyclic: { (m : Self) (p : ℕ) (s : Words) (t x : ℕ) → (meaning m).reaction p s t x ≡ (meaning m).reaction (p % (meaning m).size) s t x };
+    ghost reacts_cyclic: { (m : Self) (p : ℕ) (s : Words) (t x : ℕ) →
+        (meaning m).reaction p s t x ≡ (meaning m).reaction (p % (meaning m).size) s t x };
 }

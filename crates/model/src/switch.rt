@@ -31,7 +31,8 @@ pub struct Switch {
 impl Switch {
     // A switch of 1 to 32 ports with a service time of 1 to 1,000; other values are refused.
     pub fn new(size: u64, service: u64) -> Result<Switch, OutsideLimits>
-        ensures { MatchResult result (λ m. (m.size ≡ size) × (m.service ≡ service)) (λ _. size_fits size && service_fits service ≡ false) }
+        ensures { MatchResult result (λ m. (m.size ≡ size) × (m.service ≡ service))
+            (λ _. size_fits size && service_fits service ≡ false) }
     {
         if size < 1 || size > MOST_PROCESSES || service < 1 || service > MOST_SERVICE {
             return Err(OutsideLimits);

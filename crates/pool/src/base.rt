@@ -67,12 +67,15 @@ pub trait Pool {
     fn draw(&mut self, side: u8, worker: u8) -> Option<Grant>
         ensures { Drawn lanes (places self.old) (places self.new) side worker result };
 
-    // Puts the buffer of an unsent grant into the pair's draw lane. Answers no, with every place kept, if it is not out or the pair is none.
+    // Puts the buffer of an unsent grant into the pair's draw lane. Answers no, with every place kept, if it is not
+    // out or the pair is none.
     fn hand_back(&mut self, grant: Grant, side: u8, worker: u8) -> bool
         ensures answer { result ≡ takes_in side worker grant.buffer (places self.old) }
-        ensures after { places self.new ≡ handed_in (lanes.draw side worker) side worker grant.buffer (places self.old) };
+        ensures after { places self.new
+            ≡ handed_in (lanes.draw side worker) side worker grant.buffer (places self.old) };
 
-    // Puts a buffer that was used into the pair's return lane. Answers no, with every place kept, if it is not out or the pair is none.
+    // Puts a buffer that was used into the pair's return lane. Answers no, with every place kept, if it is not out
+    // or the pair is none.
     fn take_back(&mut self, buffer: u8, side: u8, worker: u8) -> bool
         ensures answer { result ≡ takes_in side worker buffer (places self.old) }
         ensures after { places self.new ≡ handed_in (lanes.return side worker) side worker buffer (places self.old) };

@@ -33,7 +33,8 @@ impl Pool for CommonPool {
 
     ghost unlent = { unfold lent in refl };
 
-    ghost stocked = { λ i j h. held 0 (replicate 256 (Lane 0)) 0 (let n = length-replicate 256 (Lane 0) in omega arith) refl };
+    ghost stocked = { λ i j h. held 0 (replicate 256 (Lane 0)) 0
+        (let n = length-replicate 256 (Lane 0) in omega arith) refl };
 
     ghost low = { Prim.search rules };
 

@@ -36,7 +36,8 @@ impl Pool for ReceiverPool {
         let low : j ≤ 7 = leb-true j 7 (and_parts (nat_le i 8) (nat_le j 7) h).1 in
         let lt : 32 * j < 256 = omega arith in
         let first : 32 * j / 32 ≡ j = omega arith in
-        held j (dealt 32) (32 * j) (let n = length-dealt 32 in omega arith) (place_at-dealt 32 (32 * j) lt ∙ ap Lane first) };
+        held j (dealt 32) (32 * j) (let n = length-dealt 32 in omega arith)
+        (place_at-dealt 32 (32 * j) lt ∙ ap Lane first) };
 
     ghost low = { Prim.search rules };
 

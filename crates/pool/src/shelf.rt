@@ -66,7 +66,10 @@ impl Shelf {
     pub fn put(&mut self, buffer: u8, lane: u8) -> bool
         requires { lane < 8 }
         ensures answer { result ≡ is_out (place_at self.old.places buffer) }
-        ensures after { self.new.places ≡ (if is_out (place_at self.old.places buffer) then slice_set self.old.places buffer (LaneOf lane) else self.old.places) }
+        ensures after { self.new.places
+            ≡ (if is_out (place_at self.old.places buffer)
+            then slice_set self.old.places buffer (LaneOf lane)
+            else self.old.places) }
     {
         if !self.places[buffer as usize].is_out() {
             return false;

@@ -3,7 +3,8 @@
 use std::io::Read;
 use std::{env, fs};
 
-// The bytes of the file that the first argument names, or else of standard input. What they are is outside of every proof.
+// The bytes of the file that the first argument names, or else of standard input. What they are is outside of every
+// proof.
 pub fn read_input(rt: &HostRuntime) -> anyhow::Result<Vec<u8>> {
     let mut args = env::args(rt)?;
     let _ = args.next();

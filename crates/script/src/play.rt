@@ -62,7 +62,8 @@ fn write_end(text: &mut String, bad: Option<u64>) -> Result<(), AllocError>
 
 // Writes the lines that an answer hands out.
 fn write_answer(text: &mut String, answer: &Answer<Vec<Line>>) -> Result<(), AllocError>
-    ensures { OnOk result (string_bytes text.new ≡ string_bytes text.old ++ flat_map line_text (lines_told (answer_of answer.now))) }
+    ensures { OnOk result
+        (string_bytes text.new ≡ string_bytes text.old ++ flat_map line_text (lines_told (answer_of answer.now))) }
 {
     match answer {
         Answer::Collected(lines, _) => write_lines(text, lines),
@@ -79,7 +80,10 @@ fn play_item<M: Model, P: Pool>(
 ) -> Result<(), AllocError>
     ensures model { executive.new.model ≡ executive.old.model }
     ensures plan { executive.new.plan ≡ executive.old.plan }
-    ensures plays { OnOk result (Played (M.meaning executive.old.model) P.lanes executive.old.plan executive.old.tables (P.places executive.old.pool) item (string_bytes text.old) (string_bytes text.new) executive.new.tables (P.places executive.new.pool)) }
+    ensures plays { OnOk result
+        (Played (M.meaning executive.old.model) P.lanes executive.old.plan executive.old.tables
+        (P.places executive.old.pool) item (string_bytes text.old) (string_bytes text.new) executive.new.tables
+        (P.places executive.new.pool)) }
 {
     match item {
         Item::Place(_, _) => Ok(()),
@@ -98,7 +102,9 @@ fn play_items<M: Model, P: Pool>(
     items: &[Item],
     text: &mut String,
 ) -> Result<(), AllocError>
-    ensures { OnOk result (PlayedAll (M.meaning executive.old.model) P.lanes executive.old.plan executive.old.tables (P.places executive.old.pool) items.now (string_bytes text.old) (string_bytes text.new)) }
+    ensures { OnOk result
+        (PlayedAll (M.meaning executive.old.model) P.lanes executive.old.plan executive.old.tables
+        (P.places executive.old.pool) items.now (string_bytes text.old) (string_bytes text.new)) }
 {
     for i in 0..items.len() {
         play_item(heap, executive, items[i], text)?;
@@ -139,7 +145,8 @@ fn bad_line(heap: Global, number: u64) -> Result<String, AllocError>
     Ok(text)
 }
 
-// Does the placings, starts, and plays the calls: the names of the fields, each line as it is handed out, and the bad line.
+// Does the placings, starts, and plays the calls: the names of the fields, each line as it is handed out, and the
+// bad line.
 fn session<M: Model + Drop, P: Pool + Drop>(
     heap: Global,
     mut setup: Setup<M, P>,
@@ -195,7 +202,8 @@ fn play_over<M: Model + Drop>(
     items: &[Item],
     bad: Option<u64>,
 ) -> Result<String, AllocError>
-    ensures { IfOk result (λ t. Plays (M.meaning model) (lanes_of heading.now.pool) heading.now items.now bad (string_bytes t)) }
+    ensures { IfOk result
+        (λ t. Plays (M.meaning model) (lanes_of heading.now.pool) heading.now items.now bad (string_bytes t)) }
 {
     match heading.pool {
         PoolKind::Common => {

@@ -15,7 +15,8 @@ fn line_end(bytes: &[u8], at: usize) -> usize
     ensures from { at ≤ result }
     ensures within { result ≤ length bytes.now }
     ensures more { at < length bytes.now → at < result }
-    ensures cut { at < length bytes.now → lines_of (drop at bytes.now) ≡ take (result - at) (drop at bytes.now) ∷ lines_of (drop result bytes.now) }
+    ensures cut { at < length bytes.now →
+        lines_of (drop at bytes.now) ≡ take (result - at) (drop at bytes.now) ∷ lines_of (drop result bytes.now) }
 {
     for i in at..bytes.len() {
         match bytes[i] as char {

@@ -13,7 +13,8 @@ const GREATEST_CAP: u64 = 0xffff_ffff;
 impl Limits {
     // An end of 1 to 2^40 and a cap of 1 to 2^32 - 1; other values are refused.
     pub fn new(end: u64, most: u64) -> Result<Limits, OutsideLimits>
-        ensures { MatchResult result (λ u. (u.end ≡ end) × (u.most ≡ most)) (λ _. end_fits end && cap_fits most ≡ false) }
+        ensures { MatchResult result (λ u. (u.end ≡ end) × (u.most ≡ most))
+            (λ _. end_fits end && cap_fits most ≡ false) }
     {
         if end < 1 || end > LATEST_END || most < 1 || most > GREATEST_CAP {
             return Err(OutsideLimits);

@@ -42,7 +42,8 @@ fn enqueue(waiting: &mut VecDeque<Event>, event: Event) -> Result<(), RunError>
 
 // The messages of an event wait, in their order.
 fn enqueue_all(waiting: &mut VecDeque<Event>, sends: Few<Event>) -> Result<(), RunError>
-    ensures { MatchResult result (λ _. waiting.new.items ≡ queued_all (listed sends) waiting.old.items) (λ e. e ≡ NoMemory) }
+    ensures { MatchResult result (λ _. waiting.new.items ≡ queued_all (listed sends) waiting.old.items)
+        (λ e. e ≡ NoMemory) }
 {
     match sends {
         Few::Nothing => Ok(()),
@@ -68,7 +69,10 @@ fn accept<M: Model>(
     limits: &Limits,
     posts: &[Post],
 ) -> Result<VecDeque<Event>, RunError>
-    ensures { MatchResult result (λ v. (first_unfit (M.meaning model.now) limits.now 0 posts.now ≡ None) × (v.items ≡ queued_all (posted 0 posts.now) [])) (Fails (M.meaning model.now) limits.now posts.now) }
+    ensures { MatchResult result
+        (λ v. (first_unfit (M.meaning model.now) limits.now 0 posts.now ≡ None)
+        × (v.items ≡ queued_all (posted 0 posts.now) []))
+        (Fails (M.meaning model.now) limits.now posts.now) }
 {
     let mut waiting = VecDeque::new(heap);
     for i in 0..posts.len() {
@@ -143,7 +147,10 @@ fn write_lines<M: Model>(
     budget: u64,
     mut waiting: VecDeque<Event>,
 ) -> Result<Vec<Line>, RunError>
-    ensures { MatchResult result (λ v. v.items ≡ lines_from (M.meaning model.now) limits.now budget (initial_processes (M.meaning model.now)) waiting.items) (λ e. e ≡ NoMemory) }
+    ensures { MatchResult result
+        (λ v. v.items
+        ≡ lines_from (M.meaning model.now) limits.now budget (initial_processes (M.meaning model.now)) waiting.items)
+        (λ e. e ≡ NoMemory) }
 {
     let mut lines = Vec::new(heap);
     let mut processes = fresh_processes(model);
@@ -179,7 +186,10 @@ pub fn run<M: Model>(
     limits: &Limits,
     posts: &[Post],
 ) -> Result<Vec<Line>, RunError>
-    ensures { MatchResult result (λ v. (first_unfit (M.meaning model.now) limits.now 0 posts.now ≡ None) × (v.items ≡ sequential_run (M.meaning model.now) limits.now (posted 0 posts.now))) (Fails (M.meaning model.now) limits.now posts.now) }
+    ensures { MatchResult result
+        (λ v. (first_unfit (M.meaning model.now) limits.now 0 posts.now ≡ None)
+        × (v.items ≡ sequential_run (M.meaning model.now) limits.now (posted 0 posts.now)))
+        (Fails (M.meaning model.now) limits.now posts.now) }
 {
     let waiting = accept(heap, model, limits, posts)?;
     let budget = posts.len() as u64 + 32 * limits.most;

@@ -31,7 +31,8 @@ impl Tables {
     // The message e is in transit in the buffer b.
     pub(crate) fn send(&mut self, u: &Plan, b: u8, e: Event)
         requires { e.process < 32 }
-        ensures { (pl : List Place) → machine_of self.new (slice_set pl b Out) ≡ sends u.now b e (machine_of self.old pl) }
+        ensures { (pl : List Place) →
+            machine_of self.new (slice_set pl b Out) ≡ sends u.now b e (machine_of self.old pl) }
     {
         self.put_fresh(b, Phase::Transit, false, e);
         self.enter(home_of(u, e.process), b);
@@ -43,7 +44,10 @@ impl Tables {
         requires room { self.old.posted + 1 < 2 ^ 64 }
         ensures number { result ≡ self.old.posted }
         ensures posted { self.new.posted ≡ self.old.posted + 1 }
-        ensures machine { (pl : List Place) → machine_of self.new (slice_set pl b Out) ≡ with_outside (self.old.posted + 1) (min self.old.floor t) (sends u.now b (post_as self.old.posted p t x) (machine_of self.old pl)) }
+        ensures machine { (pl : List Place) →
+            machine_of self.new (slice_set pl b Out)
+            ≡ with_outside (self.old.posted + 1) (min self.old.floor t)
+            (sends u.now b (post_as self.old.posted p t x) (machine_of self.old pl)) }
     {
         let number = self.posted;
         let floor = self.floor.min(t);
@@ -68,7 +72,9 @@ impl Tables {
         requires worker { w < 8 }
         requires aimed { Aimed es.now }
         requires many { many bs ≡ many es.now }
-        ensures { (pl : List Place) → machine_of self.new (outs (listed bs) pl) ≡ sent_all u.now w (listed bs) (listed es.now) (machine_of self.old pl) }
+        ensures { (pl : List Place) →
+            machine_of self.new (outs (listed bs) pl)
+            ≡ sent_all u.now w (listed bs) (listed es.now) (machine_of self.old pl) }
     {
         match *es {
             Few::Nothing => {}
@@ -104,9 +110,12 @@ impl Tables {
         requires worker { w < 8 }
         requires aimed { Aimed o.now.sends }
         requires many { many bs ≡ many o.now.sends }
-        requires fits { (slice_index_or self.old.processes (slice_index_or self.old.records b blank).event.process nobody).count + many o.now.sends < 2 ^ 64 }
+        requires fits { (slice_index_or self.old.processes
+            (slice_index_or self.old.records b blank).event.process nobody).count
+            + many o.now.sends < 2 ^ 64 }
         ensures posted { self.new.posted ≡ self.old.posted }
-        ensures machine { (pl : List Place) → machine_of self.new (outs (listed bs) pl) ≡ stepped_by u.now w b o.now bs (machine_of self.old pl) }
+        ensures machine { (pl : List Place) →
+            machine_of self.new (outs (listed bs) pl) ≡ stepped_by u.now w b o.now bs (machine_of self.old pl) }
     {
         let event = self.records[b as usize].event;
         let cancelled = self.records[b as usize].cancelled;

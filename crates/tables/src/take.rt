@@ -37,7 +37,8 @@ impl Tables {
     pub(crate) fn wipe(&mut self, b: u8) -> Event
         ensures event { result ≡ (slice_index_or self.old.records b blank).event }
         ensures posted { self.new.posted ≡ self.old.posted }
-        ensures machine { (l : Lanes) (u : Planned) (pl : List Place) → machine_of self.new (slice_set pl b (returned l u result)) ≡ frees l u b (machine_of self.old pl) }
+        ensures machine { (l : Lanes) (u : Planned) (pl : List Place) →
+            machine_of self.new (slice_set pl b (returned l u result)) ≡ frees l u b (machine_of self.old pl) }
     {
         let event = self.records[b as usize].event;
         self.put_fresh(b, Phase::Free, false, NO_EVENT);
@@ -47,7 +48,8 @@ impl Tables {
     // The message in the buffer b comes in: the events undone, and the messages cancelled.
     pub(crate) fn arrive(&mut self, u: &Plan, w: u8, b: u8) -> (u64, u64)
         requires { w < 8 }
-        ensures { (pl : List Place) → absorbed_to (machine_of self.new pl) 0 result.0 result.1 ≡ arrives u.now w b (machine_of self.old pl) }
+        ensures { (pl : List Place) →
+            absorbed_to (machine_of self.new pl) 0 result.0 result.1 ≡ arrives u.now w b (machine_of self.old pl) }
     {
         let event = self.records[b as usize].event;
         let cancelled = self.records[b as usize].cancelled;
@@ -59,7 +61,9 @@ impl Tables {
     // The cancelled message in the buffer b is annihilated: its event, the events undone, and the messages cancelled.
     pub(crate) fn annihilate(&mut self, u: &Plan, w: u8, b: u8) -> (Event, u64, u64)
         requires { w < 8 }
-        ensures { (l : Lanes) (pl : List Place) → absorbed_to (machine_of self.new (slice_set pl b (returned l u.now result.0))) 1 result.1 result.2 ≡ annihilates l u.now w b (machine_of self.old pl) }
+        ensures { (l : Lanes) (pl : List Place) →
+            absorbed_to (machine_of self.new (slice_set pl b (returned l u.now result.0))) 1 result.1 result.2
+            ≡ annihilates l u.now w b (machine_of self.old pl) }
     {
         let phase = self.records[b as usize].phase;
         let event = self.records[b as usize].event;

@@ -51,7 +51,8 @@ impl Tables {
     // The buffer b holds a message that is not done. Fields are written in place.
     pub(crate) fn put_fresh(&mut self, b: u8, phase: Phase, cancelled: bool, event: Event)
         requires { event.process < 32 }
-        ensures { (pl : List Place) → machine_of self.new pl ≡ with_message b (fresh_of phase cancelled event) (machine_of self.old pl) }
+        ensures { (pl : List Place) →
+            machine_of self.new pl ≡ with_message b (fresh_of phase cancelled event) (machine_of self.old pl) }
     {
         self.phases[b as usize] = phase;
         let r = &mut self.records[b as usize];
@@ -77,7 +78,9 @@ impl Tables {
         bs: Few<u8>,
     )
         requires { event.process < 32 }
-        ensures { (pl : List Place) → machine_of self.new pl ≡ with_message b (done_of cancelled event q.now o.now bs) (machine_of self.old pl) }
+        ensures { (pl : List Place) →
+            machine_of self.new pl
+            ≡ with_message b (done_of cancelled event q.now o.now bs) (machine_of self.old pl) }
     {
         self.phases[b as usize] = Phase::Done;
         let r = &mut self.records[b as usize];
@@ -99,7 +102,9 @@ impl Tables {
 
     // The message in the buffer b is cancelled.
     pub(crate) fn mark(&mut self, b: u8)
-        ensures { (pl : List Place) → machine_of self.new pl ≡ with_message b (marked (message_at (machine_of self.old pl) b)) (machine_of self.old pl) }
+        ensures { (pl : List Place) →
+            machine_of self.new pl
+            ≡ with_message b (marked (message_at (machine_of self.old pl) b)) (machine_of self.old pl) }
     {
         self.records[b as usize].cancelled = true;
     }
@@ -190,7 +195,8 @@ impl Tables {
         foremost(&Oldest { gvt: self.gvt }, &self.phases, &self.records)
     }
 
-    // The done events of a process past the mark are undone, latest first: how many, and how many messages were cancelled.
+    // The done events of a process past the mark are undone, latest first: how many, and how many messages were
+    // cancelled.
     pub(crate) fn roll_back(
         &mut self,
         u: &Plan,
@@ -200,7 +206,9 @@ impl Tables {
         through: bool,
     ) -> (u64, u64)
         requires { w < 8 }
-        ensures { (pl : List Place) → rolled_to (machine_of self.new pl) result.0 result.1 ≡ rollback u.now w p (past through mark.now) (machine_of self.old pl) }
+        ensures { (pl : List Place) →
+            rolled_to (machine_of self.new pl) result.0 result.1
+            ≡ rollback u.now w p (past through mark.now) (machine_of self.old pl) }
     {
         let mut undone = 0u64;
         let mut cancelled = 0u64;

@@ -71,7 +71,8 @@ mod tests {
         assert_eq!(rt; inbox.pop(), None);
     }
 
-    // A late post rolls back what is past it: the process is as before, and its message, in transit, is annihilated once.
+    // A late post rolls back what is past it: the process is as before, and its message, in transit, is annihilated
+    // once.
     #[test]
     fn straggler(rt: HostRuntime) {
         let u = two_workers();
