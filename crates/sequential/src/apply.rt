@@ -171,7 +171,7 @@ fn reacted(
     }
 }
 
-// Applies the event to its process as it stands. The model is asked once, here and nowhere else.
+// Applies the event to its process as it stands. The model's reaction is asked for once, here and nowhere else.
 pub fn apply<M: Model>(model: &M, limits: &Limits, event: &Event, process: &Process) -> Outcome
     ensures value { result ≡ applied (M.meaning model.now) limits.now event.now process.now }
     ensures room { process.now.count + many result.sends < 2 ^ 64 }
