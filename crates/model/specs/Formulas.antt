@@ -1,11 +1,11 @@
 -- The two models, by their formulas.
 use Rattle.std.specs.Prelude.{ℕ, ◌+◌, ◌-◌, ◌*◌, ◌/◌, ◌%◌, ◌^◌, max, Bool, if◌then◌else◌, ◌&&◌, ◌==◌, nat_le, nat_lt}
-use Rattle.model.specs.declared.base.Few.{Few}
-use Rattle.model.specs.declared.base.Few.TheVariants.{Nothing, One}
-use Rattle.model.specs.declared.base.Reaction.{Reaction}
-use Rattle.model.specs.declared.base.Reaction.TheVariants.{Fault, Next}
-use Rattle.model.specs.declared.base.State.{State}
-use Rattle.model.specs.declared.base.Want.{Want}
+use Rattle.model.specs.declared.reaction.Few.{Few}
+use Rattle.model.specs.declared.reaction.Few.TheVariants.{Nothing, One}
+use Rattle.model.specs.declared.reaction.Reaction.{Reaction}
+use Rattle.model.specs.declared.reaction.Reaction.TheVariants.{Fault, Next}
+use Rattle.model.specs.declared.state.State.{State}
+use Rattle.model.specs.declared.reaction.Want.{Want}
 use Rattle.model.specs.Meaning.{Meaning}
 
 -- what a refusal for a value outside its limits is numbered
@@ -26,16 +26,20 @@ zeros = record { w0 = 0; w1 = 0; w2 = 0; w3 = 0 }
 
 -- a cell with hops left goes to the next process, cyclically, one hop fewer
 abbrev pub forwarded : ℕ → ℕ → ℕ → ℕ → Few Want
-forwarded size p delay hops = if hops == 0 then Nothing else One (record { receiver = (p % size + 1) % size; delay = delay; payload = hops - 1 })
+forwarded size p delay hops =
+    if hops == 0 then Nothing
+    else One (record { receiver = (p % size + 1) % size; delay = delay; payload = hops - 1 })
 
--- a cell starts when it has come and the port is free, and departs a service time later; over 255 hops is fault 2, a departure past 2^40 fault 1
+-- a cell starts when it has come and the port is free, and departs a service time later; over 255 hops is fault 2,
+-- a departure past 2^40 fault 1
 abbrev pub switch_reaction : ℕ → ℕ → ℕ → State → ℕ → ℕ → Reaction
 switch_reaction size service p s time hops =
     let start = max time s.w0 in
     let departure = start + service in
     if nat_lt 255 hops then Fault 2
     else if nat_lt (2 ^ 40) departure then Fault 1
-    else Next (record { w0 = departure; w1 = (s.w1 + 1) % 2 ^ 64; w2 = (s.w2 + (start - time)) % 2 ^ 64; w3 = s.w3 }) (forwarded size p (departure - time) hops)
+    else Next (record { w0 = departure; w1 = (s.w1 + 1) % 2 ^ 64; w2 = (s.w2 + (start - time)) % 2 ^ 64; w3 = s.w3 })
+    (forwarded size p (departure - time) hops)
 
 -- a switch of so many ports, each serving a cell in the service time
 abbrev pub switch : ℕ → ℕ → Meaning

@@ -1,11 +1,12 @@
 -- What a model means.
 use Rattle.std.specs.Prelude.{ℕ, List, [], ◌∷◌}
-use Rattle.model.specs.declared.base.Few.{Few}
-use Rattle.model.specs.declared.base.Few.TheVariants.{Nothing, One, Two}
-use Rattle.model.specs.declared.base.Reaction.{Reaction}
-use Rattle.model.specs.declared.base.State.{State}
+use Rattle.model.specs.declared.reaction.Few.{Few}
+use Rattle.model.specs.declared.reaction.Few.TheVariants.{Nothing, One, Two}
+use Rattle.model.specs.declared.reaction.Reaction.{Reaction}
+use Rattle.model.specs.declared.state.State.{State}
 
--- a model means its size and two fixed functions: each process's initial state, and its reaction to process, state, time and payload
+-- a model means its size and two fixed functions: each process's initial state, and its reaction to process, state,
+-- time and payload
 pub record Meaning : Type 0 where
   pub size : ℕ
   pub initial : ℕ → State

@@ -3,7 +3,7 @@ use Rattle.std.proofs.Common.{◌≡◌, ◌<◌, ◌≤◌, true, false, sym, i
 use Rattle.std.proofs.lemmas.Bool.{cases_Bool, both_ways}
 use Rattle.std.proofs.lemmas.Bool.Decides.{nat_tests}
 use Rattle.std.specs.Cmp.{IsStrictWeakOrder}
-use Rattle.sequential.specs.declared.base.Event.{Event}
+use Rattle.sequential.specs.declared.event.Event.{Event}
 use Rattle.sequential.specs.Events.{earlier}
 
 -- two events with one key
@@ -32,7 +32,13 @@ pub not_earlier_time : (e f : Event) → earlier e f ≡ false → f.time ≤ e.
 not_earlier_time e f h = grind (arith, nat_tests)
 
 pub earlier-total : (e f : Event) → earlier e f ≡ false → earlier f e ≡ false → SameKey e f
-earlier-total e f h k = record { time = grind (arith, nat_tests); process = grind (arith, nat_tests); sender = grind (arith, nat_tests); number = grind (arith, nat_tests) }
+earlier-total e f h k =
+    record {
+      time = grind (arith, nat_tests);
+      process = grind (arith, nat_tests);
+      sender = grind (arith, nat_tests);
+      number = grind (arith, nat_tests);
+    }
 
 -- the negation of `earlier` is transitive too
 pub earlier_chain : (e f g : Event) → earlier e f ≡ false → earlier f g ≡ false → earlier e g ≡ false
@@ -46,7 +52,8 @@ earlier_trans e f g h k = elim (cases_Bool (earlier e g)) [ inl t ↦ t | inr n 
   where
     refuted : earlier e g ≡ false → ⊥
     refuted n = both_ways _ (earlier_one_way f g k)
-        (SameKey-earlier e f g (earlier-total e g n (earlier_chain g f e (earlier_one_way f g k) (earlier_one_way e f h))) h)
+        (SameKey-earlier e f g
+        (earlier-total e g n (earlier_chain g f e (earlier_one_way f g k) (earlier_one_way e f h))) h)
 
 pub IsStrictWeakOrder-earlier : IsStrictWeakOrder earlier
 IsStrictWeakOrder-earlier = record { one_way = earlier_one_way; chain = earlier_chain }

@@ -2,6 +2,6 @@ pub mod Keys
 pub mod Sends
 pub mod Waits
 pub mod Budget
-mod Accepts
 mod Lines
-mod Texts
+pub mod Texts
+mod Arrays

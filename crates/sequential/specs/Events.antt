@@ -1,20 +1,21 @@
 -- Events, their keys, and what applying one event does.
-use Rattle.std.specs.Prelude.{ℕ, ◌+◌, ◌^◌, Bool, true, false, if◌then◌else◌, ◌&&◌, ◌||◌, List, [], ◌∷◌, ◌==◌, nat_le, nat_lt}
+use Rattle.std.specs.Prelude.{ℕ, ◌+◌, ◌^◌, Bool, true, false, if◌then◌else◌, ◌&&◌, ◌||◌, List, [], ◌∷◌, ◌==◌, nat_le}
+use Rattle.std.specs.Prelude.{nat_lt, Result, Ok, Err}
 use Rattle.model.specs.Meaning.{Meaning, listed, many}
 use Rattle.model.specs.Formulas.{zeros}
-use Rattle.model.specs.declared.base.Few.{Few}
-use Rattle.model.specs.declared.base.Few.TheVariants.{Nothing, One, Two}
-use Rattle.model.specs.declared.base.Reaction.{Reaction}
-use Rattle.model.specs.declared.base.Reaction.TheVariants.{Fault, Next}
-use Rattle.model.specs.declared.base.State.{State}
-use Rattle.model.specs.declared.base.Want.{Want}
-use Rattle.sequential.specs.declared.base.Event.{Event}
-use Rattle.sequential.specs.declared.base.Limits.{Limits}
-use Rattle.sequential.specs.declared.base.Line.{Line}
-use Rattle.sequential.specs.declared.base.Outcome.{Outcome}
-use Rattle.sequential.specs.declared.base.Process.{Process}
-use Rattle.sequential.specs.declared.base.Verdict.{Verdict}
-use Rattle.sequential.specs.declared.base.Verdict.TheVariants.{Fine, ModelFault, NoReceiver, BadDelay, OverCap}
+use Rattle.model.specs.declared.reaction.Few.{Few}
+use Rattle.model.specs.declared.reaction.Few.TheVariants.{Nothing, One, Two}
+use Rattle.model.specs.declared.reaction.Reaction.{Reaction}
+use Rattle.model.specs.declared.reaction.Reaction.TheVariants.{Fault, Next}
+use Rattle.model.specs.declared.state.State.{State}
+use Rattle.model.specs.declared.reaction.Want.{Want}
+use Rattle.sequential.specs.declared.event.Event.{Event}
+use Rattle.sequential.specs.declared.limits.Limits.{Limits}
+use Rattle.sequential.specs.declared.event.Line.{Line}
+use Rattle.sequential.specs.declared.event.Outcome.{Outcome}
+use Rattle.sequential.specs.declared.event.Process.{Process}
+use Rattle.sequential.specs.declared.event.Verdict.{Verdict}
+use Rattle.sequential.specs.declared.event.Verdict.TheVariants.{Fine, ModelFault, NoReceiver, BadDelay, OverCap}
 
 -- an end is 1 to 2^40
 abbrev pub end_fits : ℕ → Bool
@@ -55,6 +56,7 @@ code_of NoReceiver = 1
 code_of BadDelay = 2
 code_of OverCap = 3
 
+-- whether it is no fault
 abbrev pub is_fine : Verdict → Bool
 is_fine Fine = true
 is_fine (ModelFault c) = false
@@ -69,7 +71,13 @@ delay_fits delay = nat_le 1 delay && nat_le delay (2 ^ 40)
 -- the first thing wrong with the wanted sends, in their order; of one send its receiver is looked at before its delay
 abbrev pub flaw : ℕ → List Want → Verdict
 flaw size [] = Fine
-flaw size (w ∷ ws) = if nat_le size w.receiver then NoReceiver else if delay_fits w.delay then flaw size ws else BadDelay
+flaw size (w ∷ ws) =
+    if nat_le size w.receiver then NoReceiver
+    else if delay_fits w.delay then flaw size ws else BadDelay
+
+-- a verdict as a check answers it: nothing is wrong, or this
+abbrev pub passed : Verdict → Result (Unit {0}) Verdict
+passed v = if is_fine v then Ok tt else Err v
 
 -- one more in front of a few
 abbrev pub more : {A : Type 0} → A → Few A → Few A
@@ -86,7 +94,9 @@ message_of e n w =
 abbrev pub messages_of : ℕ → Event → ℕ → List Want → Few Event
 messages_of end e n [] = Nothing
 messages_of end e n (w ∷ ws) =
-    if nat_lt (e.time + w.delay) end then more (message_of e n w) (messages_of end e (n + 1) ws) else messages_of end e n ws
+    if nat_lt (e.time + w.delay) end
+    then more (message_of e n w) (messages_of end e (n + 1) ws)
+    else messages_of end e n ws
 
 -- a faulted event leaves the state and sends nothing
 abbrev pub faulted : Verdict → State → Outcome
@@ -99,7 +109,9 @@ reacted size u e q (Next s ws) =
     let wrong = flaw size (listed ws) in
     let out = messages_of u.end e q.count (listed ws) in
     if is_fine wrong
-    then (if nat_le (q.count + many out) u.most then record { verdict = Fine; state = s; sends = out } else faulted OverCap q.state)
+    then (if nat_le (q.count + many out) u.most
+    then record { verdict = Fine; state = s; sends = out }
+    else faulted OverCap q.state)
     else faulted wrong q.state
 
 -- the event e applied to its process as it stands: the reaction is asked once
@@ -107,9 +119,10 @@ unfoldable pub applied : Meaning → Limits → Event → Process → Outcome
 applied m u e q = reacted m.size u e q (m.reaction e.process q.state e.time e.payload)
 
 -- the process after the event
-abbrev pub moved : Outcome → Process → Process
-moved o q = record { state = o.state; count = q.count + many o.sends }
+abbrev pub process_after : Outcome → Process → Process
+process_after o q = record { state = o.state; count = q.count + many o.sends }
 
+-- the line of an event and its outcome
 abbrev pub line_of : Event → Outcome → Line
 line_of e o = record { event = e; verdict = o.verdict; state = o.state }
 

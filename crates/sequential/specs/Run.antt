@@ -1,13 +1,14 @@
 -- The sequential run: events wait in key order; the least is applied, written, and its messages wait; until none waits.
-use Rattle.std.specs.Prelude.{◌≡◌, ℕ, zero, suc, ◌+◌, ◌*◌, ◌<◌, ◌≤◌, if◌then◌else◌, List, [], ◌∷◌, map, length, slice_index_or, slice_set}
+use Rattle.std.specs.Prelude.{◌≡◌, ℕ, zero, suc, ◌+◌, ◌*◌, ◌<◌, ◌≤◌, if◌then◌else◌, List, [], ◌∷◌, map, length}
+use Rattle.std.specs.Prelude.{slice_index_or, slice_set}
 use Rattle.std.specs.List.{range_with_len, AllByRecursion}
 use Rattle.model.specs.Meaning.{Meaning, listed}
-use Rattle.sequential.specs.declared.base.Event.{Event}
-use Rattle.sequential.specs.declared.base.Limits.{Limits}
-use Rattle.sequential.specs.declared.base.Line.{Line}
-use Rattle.sequential.specs.declared.base.Outcome.{Outcome}
-use Rattle.sequential.specs.declared.base.Process.{Process}
-use Rattle.sequential.specs.Events.{earlier, applied, moved, line_of, nobody}
+use Rattle.sequential.specs.declared.event.Event.{Event}
+use Rattle.sequential.specs.declared.limits.Limits.{Limits}
+use Rattle.sequential.specs.declared.event.Line.{Line}
+use Rattle.sequential.specs.declared.event.Outcome.{Outcome}
+use Rattle.sequential.specs.declared.event.Process.{Process}
+use Rattle.sequential.specs.Events.{earlier, applied, process_after, line_of, nobody}
 
 -- an event joins the waiting ones, least key first
 abbrev pub queued : Event → List Event → List Event
@@ -28,8 +29,8 @@ abbrev pub outcome : Meaning → Limits → List Process → Event → Outcome
 outcome m u ps e = applied m u e (slice_index_or ps e.process nobody)
 
 -- and where they stand after it
-abbrev pub after : List Process → Event → Outcome → List Process
-after ps e o = slice_set ps e.process (moved o (slice_index_or ps e.process nobody))
+abbrev pub processes_after : List Process → Event → Outcome → List Process
+processes_after ps e o = slice_set ps e.process (process_after o (slice_index_or ps e.process nobody))
 
 -- at most k lines from here
 unfoldable pub lines : Meaning → Limits → ℕ → List Process → List Event → List Line
@@ -37,15 +38,15 @@ lines m u zero ps ws = []
 lines m u (suc k) ps [] = []
 lines m u (suc k) ps (e ∷ ws) =
     let o = outcome m u ps e in
-    line_of e o ∷ lines m u k (after ps e o) (queued_all (listed o.sends) ws)
+    line_of e o ∷ lines m u k (processes_after ps e o) (queued_all (listed o.sends) ws)
 
 -- what still waits after k lines
-unfoldable pub waiting : Meaning → Limits → ℕ → List Process → List Event → List Event
-waiting m u zero ps ws = ws
-waiting m u (suc k) ps [] = []
-waiting m u (suc k) ps (e ∷ ws) =
+unfoldable pub unwritten : Meaning → Limits → ℕ → List Process → List Event → List Event
+unwritten m u zero ps ws = ws
+unwritten m u (suc k) ps [] = []
+unwritten m u (suc k) ps (e ∷ ws) =
     let o = outcome m u ps e in
-    waiting m u k (after ps e o) (queued_all (listed o.sends) ws)
+    unwritten m u k (processes_after ps e o) (queued_all (listed o.sends) ws)
 
 -- no run is longer: a line is a post, or one of the messages that the cap allows each process
 abbrev pub budget : Limits → List Event → ℕ
@@ -60,4 +61,4 @@ abbrev pub BudgetSuffices : Type 0
 BudgetSuffices =
     (m : Meaning) (u : Limits) (posts : List Event) →
     m.size ≤ 32 → AllByRecursion (λ e. e.process < m.size) posts →
-    waiting m u (budget u posts) (fresh m) (queued_all posts []) ≡ []
+    unwritten m u (budget u posts) (fresh m) (queued_all posts []) ≡ []

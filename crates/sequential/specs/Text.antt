@@ -1,6 +1,7 @@
 -- How a line is written.
 use Rattle.std.specs.Prelude.{ℕ, List, [], ◌∷◌, ◌++◌, codes, decimal}
-use Rattle.sequential.specs.declared.base.Line.{Line}
+use Rattle.std.specs.List.{flat_map}
+use Rattle.sequential.specs.declared.event.Line.{Line}
 use Rattle.sequential.specs.Events.{layer_of, code_of}
 
 -- the names of a line's fields
@@ -22,3 +23,11 @@ fields l =
 -- a line: its time, and its other fields, with one space between them, ended by a line feed
 abbrev pub line_text : Line → List ℕ
 line_text l = decimal l.event.time ++ spaced (fields l)
+
+-- a figure in base ten behind one space
+abbrev pub behind : ℕ → List ℕ
+behind n = 32 ∷ decimal n
+
+-- a line without its line feed
+abbrev pub line_row : Line → List ℕ
+line_row l = decimal l.event.time ++ flat_map behind (fields l)

@@ -1,82 +1,42 @@
-// Comparing keys, and applying an event to its process.
+//! Comparing keys, and applying an event to its process.
 
-ghost use Rattle.std.specs.Prelude.{◌≡◌, ◌+◌, ◌^◌, ◌<◌, ◌≤◌, true, [], ◌∷◌, nat_lt};
+ghost use Rattle.std.specs.Prelude.{◌≡◌, ◌+◌, ◌^◌, ◌<◌, ◌≤◌, true, [], MatchResult, ◌∷◌, nat_lt};
 ghost use Rattle.model.specs.Meaning.{listed, many};
-ghost use Rattle.sequential.specs.Events.{applied, code_of, earlier as key_earlier, faulted, flaw as first_flaw, is_fine, layer_of, message_of, messages_of, reacted as reacted_to};
+ghost use Rattle.sequential.specs.Events.{applied, faulted, flaw as first_flaw, is_fine, message_of, messages_of};
+ghost use Rattle.sequential.specs.Events.{passed, reacted as reacted_to};
 
-use crate::base::{Event, Limits, Outcome, Process, Verdict};
-use model::base::{Few, Model, Reaction, State, Want};
+use crate::event::{Event, Outcome, Process, Verdict};
+use crate::limits::Limits;
+use model::Model;
+use model::limits::LATEST;
+use model::reaction::{Few, Reaction, Want};
+use model::state::State;
 
-const LONGEST_DELAY: u64 = 0x100_0000_0000;
-
-impl Event {
-    // Whether this event's key comes first: by time, then process, then sender, then number.
-    pub fn earlier(&self, other: &Event) -> bool
-        ensures { result ≡ key_earlier self.now other.now }
-    {
-        if self.time != other.time {
-            return self.time < other.time;
-        }
-        if self.process != other.process {
-            return self.process < other.process;
-        }
-        if self.sender != other.sender {
-            return self.sender < other.sender;
-        }
-        self.number < other.number
-    }
-}
-
-impl Verdict {
-    // The layer of a fault: 0, none; 1, the model's; 2, the executive's.
-    pub fn layer(&self) -> u8
-        ensures { result ≡ layer_of self.now }
-    {
-        match self {
-            Verdict::Fine => 0,
-            Verdict::ModelFault(_) => 1,
-            _ => 2,
-        }
-    }
-
-    // Its code in that layer.
-    pub fn code(&self) -> u8
-        ensures { result ≡ code_of self.now }
-    {
-        match self {
-            Verdict::Fine => 0,
-            Verdict::ModelFault(c) => *c,
-            Verdict::NoReceiver => 1,
-            Verdict::BadDelay => 2,
-            Verdict::OverCap => 3,
-        }
-    }
-}
-
-// What is wrong with one wanted send: its receiver is looked at before its delay.
-fn flaw_of(size: u8, want: &Want) -> Verdict
-    ensures { result ≡ first_flaw size (want.now ∷ []) }
+// Refuses a wanted send that is wrong: its receiver is looked at before its delay.
+fn check_want(size: u8, want: &Want) -> Result<(), Verdict>
+    ensures { result ≡ passed (first_flaw size (want.now ∷ [])) }
 {
     if want.receiver >= size as u64 {
-        return Verdict::NoReceiver;
+        return Err(Verdict::NoReceiver);
     }
-    if want.delay == 0 || want.delay > LONGEST_DELAY {
-        return Verdict::BadDelay;
+    if want.delay == 0 || want.delay > LATEST {
+        return Err(Verdict::BadDelay);
     }
-    Verdict::Fine
+    Ok(())
 }
 
-// The first thing wrong with the wanted sends, in their order.
-fn flaw(size: u8, wants: &Few<Want>) -> Verdict
-    ensures { result ≡ first_flaw size (listed wants.now) }
+// Refuses the first thing wrong with the wanted sends, in their order.
+// By cases: a loop over two would owe an invariant, and no case owes anything.
+fn check_wants(size: u8, wants: &Few<Want>) -> Result<(), Verdict>
+    ensures { result ≡ passed (first_flaw size (listed wants.now)) }
 {
     match wants {
-        Few::Nothing => Verdict::Fine,
-        Few::One(want) => flaw_of(size, want),
-        Few::Two(first, second) => match flaw_of(size, first) {
-            Verdict::Fine => flaw_of(size, second),
-            wrong => wrong,
-        },
+        Few::Nothing => Ok(()),
+        Few::One(want) => check_want(size, want),
+        Few::Two(first, second) => {
+            check_want(size, first)?;
+            check_want(size, second)
+        }
     }
 }
 
@@ -103,6 +63,7 @@ fn message(event: &Event, number: u64, want: &Want) -> Event
 }
 
 // The messages of the event, numbered from `first` on; those due at or past the end are struck out.
+// By cases: whether the first is struck out decides the second's number.
 fn messages(size: u8, limits: &Limits, event: &Event, first: u64, wants: &Few<Want>) -> Few<Event>
     requires fine { is_fine (first_flaw size (listed wants.now)) ≡ true }
     requires counted { first ≤ limits.now.most }
@@ -138,40 +99,41 @@ fn fault(verdict: Verdict, state: State) -> Outcome
 }
 
 // The executive's own checks of a reaction, in order: the wants, then the cap.
-fn reacted(
+fn checked(
     size: u8,
     limits: &Limits,
     event: &Event,
     process: &Process,
     reaction: Reaction,
-) -> Outcome
-    ensures value { result ≡ reacted_to size limits.now event.now process.now reaction }
-    ensures room { process.now.count + many result.sends < 2 ^ 64 }
+) -> Result<Outcome, Verdict>
+    ensures value { MatchResult result
+        (λ o. o ≡ reacted_to size limits.now event.now process.now reaction)
+        (λ v. faulted v process.now.state ≡ reacted_to size limits.now event.now process.now reaction) }
+    ensures room { MatchResult result
+        (λ o. process.now.count + many o.sends < 2 ^ 64) (λ _. process.now.count < 2 ^ 64) }
 {
-    let capped = process.count > limits.most;
+    let count = process.count;
     let (state, wants) = match reaction {
-        Reaction::Fault(c) => return fault(Verdict::ModelFault(c), process.state),
+        Reaction::Fault(code) => return Err(Verdict::ModelFault(code)),
         Reaction::Next(state, wants) => (state, wants),
     };
-    match flaw(size, &wants) {
-        Verdict::Fine => {}
-        wrong => return fault(wrong, process.state),
+    check_wants(size, &wants)?;
+    if count > limits.most {
+        return Err(Verdict::OverCap);
     }
-    if capped {
-        return fault(Verdict::OverCap, process.state);
+    let sends = messages(size, limits, event, count, &wants);
+    if count + sends.len() > limits.most {
+        return Err(Verdict::OverCap);
     }
-    let sends = messages(size, limits, event, process.count, &wants);
-    if process.count + sends.len() > limits.most {
-        return fault(Verdict::OverCap, process.state);
-    }
-    Outcome {
+    Ok(Outcome {
         verdict: Verdict::Fine,
         state,
         sends,
-    }
+    })
 }
 
-// Applies the event to its process as it stands. The model's reaction is asked for once, here and nowhere else.
+/// Applies the event to its process as it stands. The model's reaction is asked for once, here and nowhere else.
+#[tactic(auto, unfolding(crate::specs::Events::applied))]
 pub fn apply<M: Model>(model: &M, limits: &Limits, event: &Event, process: &Process) -> Outcome
     ensures value { result ≡ applied (M.meaning model.now) limits.now event.now process.now }
     ensures room { process.now.count + many result.sends < 2 ^ 64 }
@@ -182,5 +144,8 @@ pub fn apply<M: Model>(model: &M, limits: &Limits, event: &Event, process: &Proc
         event.time,
         event.payload,
     );
-    reacted(model.size(), limits, event, process, reaction)
+    checked(model.size(), limits, event, process, reaction).unwrap_or_else(|verdict| fault(
+        verdict,
+        process.state,
+    ))
 }

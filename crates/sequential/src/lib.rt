@@ -1,9 +1,9 @@
-// Events and their keys, what applying one does, and the sequential run.
+//! Events and their keys, what applying one does, and the sequential run.
 
 #![tactic(auto)]
 
 pub mod apply;
-pub mod base;
+pub mod event;
 pub mod limits;
 pub mod run;
 pub mod text;

@@ -1,9 +1,12 @@
-// Applying an event: every fault, the order of two, and the edges of the end and the cap.
+//! Applying an event: every fault, the order of two, and the edges of the end and the cap.
 
 use crate::fixed::{faulty, wanting};
-use model::base::{Few, State, Want};
+use model::limits::LATEST;
+use model::reaction::{Few, Want};
+use model::state::State;
 use sequential::apply::apply;
-use sequential::base::{Event, Limits, Outcome, Process, Verdict};
+use sequential::event::{Event, Outcome, Process, Verdict};
+use sequential::limits::Limits;
 use std::process::Abort;
 use std::test::Fail;
 
@@ -53,8 +56,7 @@ const TOO_LONG: Want = Want {
 fn outcome(wants: Few<Want>, end: u64, most: u64) -> Result<Outcome, Fail> {
     let model = wanting(wants);
     let limits = Limits::new(end, most)?;
-    let r = apply(&model, &limits, &EVENT, &BEFORE);
-    Ok(r)
+    Ok(apply(&model, &limits, &EVENT, &BEFORE))
 }
 
 // A fault leaves the state and sends nothing.

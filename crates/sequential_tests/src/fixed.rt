@@ -1,11 +1,13 @@
-// A model of eight processes that always reacts alike.
+//! A model of eight processes that always reacts alike.
 
 ghost use Rattle.std.specs.Prelude.{◌≡◌, ℕ, ◌≤◌};
 ghost use Rattle.model.specs.Formulas.{zeros};
-ghost use Rattle.model.specs.declared.base.Reaction.TheVariants.{Fault};
+ghost use Rattle.model.specs.declared.reaction.Reaction.TheVariants.{Fault};
 ghost use Rattle.std.proofs.Common.{rules};
 
-use model::base::{Few, Model as ProcessModel, Reaction, State, Want};
+use model::Model as ProcessModel;
+use model::reaction::{Few, Reaction, Want};
+use model::state::State;
 
 #[derive(Drop)]
 pub struct Fixed {
@@ -29,12 +31,7 @@ impl ProcessModel for Fixed {
     }
 
     fn initial(&self, process: u64) -> State {
-        State {
-            w0: 0,
-            w1: 0,
-            w2: 0,
-            w3: 0,
-        }
+        State::ZERO
     }
 
     fn react(&self, process: u64, state: &State, time: u64, payload: u64) -> Reaction {

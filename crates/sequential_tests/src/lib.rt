@@ -1,4 +1,4 @@
-// Tests of the models, of applying an event, and of the sequential run.
+//! Tests of the models, of applying an event, and of the sequential run.
 
 #![tactic(auto)]
 

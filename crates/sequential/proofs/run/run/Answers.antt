@@ -4,4 +4,5 @@ use Rattle.sequential.proofs.Lines.{length-posted}
 use Rattle.sequential.proofs.run.run.Goals as goal
 
 pub returns : goal.returns
-returns g c = let n = length-posted 0 c.args.posts.now in let h = c.in_ok-waiting.ensures in let w = c.write_lines.ensures in search rules
+returns g c = let n = length-posted 0 c.args.posts.now in let h = c.in_ok-waiting.ensures in let w = c.run_on.ensures in
+    search rules

@@ -1,7 +1,8 @@
-use Rattle.std.proofs.Common.{◌≡◌, ◌++◌, drop, string_bytes}
-use Rattle.sequential.specs.Text.{spaced}
+use Rattle.std.proofs.Common.{◌≡◌, ◌++◌, take, string_bytes}
+use Rattle.std.specs.List.{flat_map}
+use Rattle.sequential.specs.Text.{behind}
 use Rattle.sequential.proofs.text.write_spaced.Given as goal
 
--- what is written, with what is left of the numbers, is the whole
-abbrev pub invariant-loop-i : goal.invariant-loop-i
-invariant-loop-i l = string_bytes l.initial.text ++ spaced l.numbers ≡ string_bytes l.text ++ spaced (drop l.i l.numbers)
+-- the figures so far stand behind the text
+abbrev pub invariant-loop-n : goal.invariant-loop-n
+invariant-loop-n l = string_bytes l.text ≡ string_bytes l.initial.text ++ flat_map behind (take l.n-index l.numbers)
