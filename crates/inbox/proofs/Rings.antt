@@ -1,7 +1,8 @@
 -- The ring and the list that it means.
-use Rattle.std.proofs.Common.{◌≡◌, ℕ, zero, suc, ◌+◌, ◌-◌, ◌%◌, ◌<◌, ◌≤◌, true, false, ltb, ◌≢◌, List, [], ◌∷◌, ◌++◌, length, get_or, set, sym, refl, ap, ◌∙◌, add-one, arith, get_or-set_other, get_or-set_same}
-use Rattle.std.proofs.lemmas.Bool.{lt-ltb, le-ltb, cond-true, cond-false}
-use Rattle.inbox.specs.Queue.{ring_of, entered}
+-- The library has no ring in an array, so that these are its laws.
+use Rattle.std.proofs.Common.{◌≡◌, ℕ, zero, suc, ◌+◌, ◌-◌, ◌%◌, ◌<◌, ◌≤◌, ◌≢◌, List, [], ◌∷◌, ◌++◌, length, get_or, set}
+use Rattle.std.proofs.Common.{refl, ap, add-one, arith, get_or-set_other, get_or-set_same}
+use Rattle.inbox.specs.Queue.{ring_of}
 
 pub sized : (xs : List ℕ) (h n : ℕ) → length (ring_of xs h n) ≡ n
 unfolding ring_of
@@ -17,7 +18,8 @@ unfolding ring_of
 ring_first xs h zero l = let z : ⊥ = omega arith in absurd z
 ring_first xs h (suc n) l = let e : suc n - 1 ≡ n = omega arith in rw e
 
-pub ring_last : (xs : List ℕ) (h n : ℕ) → h < 256 → ring_of xs h (suc n) ≡ ring_of xs h n ++ get_or xs ((h + n) % 256) 0 ∷ []
+pub ring_last : (xs : List ℕ) (h n : ℕ) → h < 256
+    → ring_of xs h (suc n) ≡ ring_of xs h n ++ get_or xs ((h + n) % 256) 0 ∷ []
 unfolding ring_of
 ring_last xs h zero l = let e : (h + 0) % 256 ≡ h = omega arith in rw e
 ring_last xs h (suc n) l =
@@ -26,7 +28,8 @@ ring_last xs h (suc n) l =
     let r = ring_last xs ((h + 1) % 256) n low in
     ap (λ (t : List ℕ). get_or xs h 0 ∷ t) (rw e at r)
 
-pub ring_kept : (xs : List ℕ) (h n m v : ℕ) → h < 256 → n ≤ m → m < 256 → ring_of (set xs ((h + m) % 256) v) h n ≡ ring_of xs h n
+pub ring_kept : (xs : List ℕ) (h n m v : ℕ) → h < 256 → n ≤ m → m < 256
+    → ring_of (set xs ((h + m) % 256) v) h n ≡ ring_of xs h n
 unfolding ring_of
 ring_kept xs h zero m v l a b = refl
 ring_kept xs h (suc n) m v l a b =
@@ -38,7 +41,8 @@ ring_kept xs h (suc n) m v l a b =
     let f = get_or-set_other xs ((h + m) % 256) h v 0 ne in
     cc
 
-pub ring_push : (xs : List ℕ) (h n v : ℕ) → h < 256 → n < 256 → length xs ≡ 256 → ring_of (set xs ((h + n) % 256) v) h (n + 1) ≡ ring_of xs h n ++ v ∷ []
+pub ring_push : (xs : List ℕ) (h n v : ℕ) → h < 256 → n < 256 → length xs ≡ 256
+    → ring_of (set xs ((h + n) % 256) v) h (n + 1) ≡ ring_of xs h n ++ v ∷ []
 ring_push xs h n v l m full =
     let p = (h + n) % 256 in
     let in_range : (h + n) % 256 < length xs = omega arith in
@@ -46,16 +50,6 @@ ring_push xs h n v l m full =
     let b = ring_kept xs h n n v l (omega arith) m in
     let d = get_or-set_same xs p v 0 in_range in
     rw add-one cc
-
-pub ring_enter : (xs : List ℕ) (h n v : ℕ) → h < 256 → n < 256 → length xs ≡ 256 → ring_of (set xs ((h + n) % 256) v) h (n + 1) ≡ entered v (ring_of xs h n)
-ring_enter xs h n v l m full =
-    let t : ltb (length (ring_of xs h n)) 256 ≡ true = rw (sized xs h n) (lt-ltb n 256 m) in
-    ring_push xs h n v l m full ∙ sym (cond-true _ (ring_of xs h n ++ v ∷ []) (ring_of xs h n) t)
-
-pub ring_full : (xs : List ℕ) (h n v : ℕ) → 256 ≤ n → ring_of xs h n ≡ entered v (ring_of xs h n)
-ring_full xs h n v m =
-    let t : ltb (length (ring_of xs h n)) 256 ≡ false = rw (sized xs h n) (le-ltb n 256 m) in
-    sym (cond-false _ (ring_of xs h n ++ v ∷ []) (ring_of xs h n) t)
 
 pub ring_at : (xs : List ℕ) (h n i : ℕ) → h < 256 → i < n → get_or (ring_of xs h n) i 0 ≡ get_or xs ((h + i) % 256) 0
 unfolding ring_of
@@ -65,3 +59,6 @@ ring_at xs h (suc n) (suc i) l m =
     let e : ((h + 1) % 256 + i) % 256 ≡ (h + suc i) % 256 = omega arith in
     let r = ring_at xs ((h + 1) % 256) n i (omega arith) (omega arith) in
     rw e at r
+
+-- what the calls need of rings
+pub ruleset rings = (ring_none, sized, ring_first, ring_push, ring_at)

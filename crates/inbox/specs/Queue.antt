@@ -1,21 +1,13 @@
--- An inbox means a list of buffers, oldest first.
-use Rattle.std.specs.Prelude.{ℕ, zero, suc, ◌+◌, ◌%◌, if◌then◌else◌, List, [], ◌∷◌, ◌++◌, length, Some, None, Option, nat_lt, slice_index}
-use Rattle.inbox.specs.declared.Inbox.{Inbox}
+-- A ring means a list of buffers, oldest first.
+use Rattle.std.specs.Prelude.{ℕ, zero, suc, ◌+◌, ◌%◌, if◌then◌else◌, List, [], ◌∷◌, ◌++◌, length, Some, None, Option}
+use Rattle.std.specs.Prelude.{nat_lt, slice_index}
 
 -- n bytes of the ring from the place h on
 unfoldable pub ring_of : List ℕ → ℕ → ℕ → List ℕ
 ring_of xs h zero = []
 ring_of xs h (suc n) = slice_index xs h ∷ ring_of xs ((h + 1) % 256) n
 
--- the buffers in the inbox, oldest first
-abbrev pub queue : Inbox → List ℕ
-queue b = ring_of b.slots b.head b.len
-
--- an inbox of no memory, for a place that there is not
-abbrev pub no_inbox : Inbox
-no_inbox = record { slots = []; head = 0; len = 0 }
-
--- a buffer comes in last, while fewer than 256 are in
+-- a buffer comes in last, while fewer than 256 are in, which is all there are
 abbrev pub entered : ℕ → List ℕ → List ℕ
 entered b bs = if nat_lt (length bs) 256 then bs ++ (b ∷ []) else bs
 

@@ -1,152 +1,139 @@
--- Taking the top of a stack, and putting a buffer on top, keep the facts of the stacks.
-use Rattle.std.proofs.Common.{◌≡◌, ℕ, ◌+◌, ◌<◌, ◌≤◌, ◌≢◌, ◌⊎◌, List, [], length, get_or, set, sym, ap, ◌∙◌, subst, inl, inr, arith, length-set, get_or-set_other, get_or-set_same}
-use Rattle.std.proofs.lemmas.Bool.{cases_eq}
-use Rattle.pool.specs.declared.base.Place.{Place}
-use Rattle.pool.specs.declared.base.Place.TheVariants.{Out, Lane}
-use Rattle.pool.specs.Lanes.{place_at, lies}
-use Rattle.pool.specs.Stacks.{item_at, Square, Tally, Sound, Apart}
-use Rattle.pool.specs.Laws.{lies-draw, lies-draw_other, lies-put, lies-put_other, room, held_out}
+-- A buffer that goes onto a lane's stack or off it, with its place, keeps what a shelf says of its stacks.
+use Rattle.std.proofs.Common.{◌≡◌, ℕ, ◌+◌, ◌<◌, ◌≤◌, Bool, true, false, ◌==◌, ◌≢◌, List, [], ◌∷◌, ◌++◌, length, get_or}
+use Rattle.std.proofs.Common.{set, refl, sym, ap, ◌∙◌, subst, inl, inr, arith, get_or-set_other, get_or-set_same}
+use Rattle.std.proofs.Common.{length-append}
+use Rattle.std.proofs.lemmas.Bool.{cases_eq, eq-eqb, ne_eqb}
+use Rattle.std.proofs.lemmas.List.{get_or_default}
+use Rattle.std.proofs.lemmas.List.Sums.{sum_by_push}
+use Rattle.pool.specs.declared.place.Place.{Place}
+use Rattle.pool.specs.declared.place.Place.TheVariants.{Out, Lane}
+use Rattle.pool.specs.Lanes.{place_at, is_in, lies}
+use Rattle.pool.specs.Stacks.{Tally, times, Once}
+use Rattle.pool.specs.Laws.{one, in_is, in_own, in_other, lies-set, room, held_out}
 
--- places that differ are of two buffers
-Apart-by : (ps : List Place) (a b : ℕ) (p q : Place) → place_at ps a ≡ p → place_at ps b ≡ q → (p ≡ q → ⊥) → a ≢ b
-Apart-by ps a b p q x y ne e = ne (sym x ∙ ap (λ i. place_at ps i) e ∙ y)
+times_push : (b x : ℕ) (xs : List ℕ) → times b (xs ++ x ∷ []) ≡ times b xs + one (x == b)
+times_push b x xs = sum_by_push (λ y. one (y == b)) xs x
 
-lanes_differ : (l m : ℕ) → m ≢ l → Lane m ≡ Lane l → ⊥
-lanes_differ l m ne e = ne (cc)
+times_push_same : (b : ℕ) (xs : List ℕ) → times b (xs ++ b ∷ []) ≡ times b xs + 1
+times_push_same b xs = times_push b b xs ∙ ap (λ t. times b xs + one t) (eq-eqb b b refl)
 
-lane_not_out : (l : ℕ) → Lane l ≡ Out → ⊥
-lane_not_out l e = let z : ◌≡◌ {A = ℕ} 0 1 = cc in omega arith
+times_push_other : (b x : ℕ) (xs : List ℕ) → b ≢ x → times b (xs ++ x ∷ []) ≡ times b xs
+times_push_other b x xs ne =
+    times_push b x xs ∙ ap (λ t. times b xs + one t) (ne_eqb x b (λ e. ne (sym e))) ∙ omega arith
 
--- a stack is no higher than there are buffers
-pub height_most : (ps : List Place) (hs : List ℕ) (l : ℕ) → Tally ps hs → get_or hs l 0 ≤ length ps
-height_most ps hs l tally = let t = tally l in let r = room l ps in omega arith
+at_most_one : (t : Bool) → one t ≤ 1
+at_most_one true = omega arith
+at_most_one false = omega arith
 
--- and has room while some buffer is out
-pub height_room : (ps : List Place) (hs : List ℕ) (l b : ℕ) → Tally ps hs → b < length ps → place_at ps b ≡ Out → get_or hs l 0 < length ps
-height_room ps hs l b tally h e = let t = tally l in let r = room l ps in let o = held_out ps b h e in omega arith
+holds_one : (t : Bool) → 0 < one t → t ≡ true
+holds_one true h = refl
+holds_one false h = let z : ⊥ = omega arith in absurd z
 
-module _ (ps : List Place) (rows : List (List ℕ)) (hs : List ℕ) (l t : ℕ) (tally : Tally ps hs) (sound : Sound ps rows hs) (apart : Apart rows hs)
-    (lane : l < length hs) (top : t + 1 ≡ get_or hs l 0) (known : item_at rows l t < length ps) where
-  on_top : place_at ps (item_at rows l t) ≡ Lane l
-  on_top = sound l t (omega arith)
-
-  lower : (m k : ℕ) → k < get_or (set hs l t) m 0 → k < get_or hs m 0
-  lower m k h =
+-- one buffer's place and one lane's stack change, and no other lane gains or loses it
+module _ (ps : List Place) (stacks : List (List ℕ)) (l b : ℕ) (p : Place) (xs : List ℕ)
+    (lane : l < length stacks) (known : b < length ps)
+    (others : (m : ℕ) → m ≢ l → is_in m (place_at ps b) ≡ is_in m p) where
+  Tally-moved : Tally ps stacks
+      → length xs + one (is_in l (place_at ps b)) ≡ length (get_or stacks l []) + one (is_in l p)
+      → Tally (set ps b p) (set stacks l xs)
+  Tally-moved tally high m =
+      let s = lies-set m ps b p known in
+      let t = tally m in
       elim (cases_eq m l) [
-        | inl e ↦ (let s = get_or-set_same hs l t 0 lane in let u = ap (λ i. get_or (set hs l t) i 0) e in let v = ap (λ i. get_or hs i 0) e in omega arith)
-        | inr ne ↦ (let s = get_or-set_other hs l m t 0 ne in omega arith)
+        | inl e ↦ subst (λ i. length (get_or (set stacks l xs) i []) ≡ lies i (set ps b p)) (sym e)
+            (let g = ap (λ (ys : List ℕ). length ys) (get_or-set_same stacks l xs [] lane) in
+            let s = lies-set l ps b p known in
+            let t = tally l in
+            omega arith)
+        | inr ne ↦
+            (let g = ap (λ (ys : List ℕ). length ys) (get_or-set_other stacks l m xs [] ne) in
+            let o = ap one (others m ne) in
+            omega arith)
       ]
 
-  pub Tally-take : Tally (set ps (item_at rows l t) Out) (set hs l t)
-  Tally-take m =
+  Once-moved : Once ps stacks → times b xs ≡ one (is_in l p)
+      → ((c : ℕ) → c ≢ b → times c xs ≡ times c (get_or stacks l [])) → Once (set ps b p) (set stacks l xs)
+  Once-moved once own rest m c =
       elim (cases_eq m l) [
-        | inl e ↦ subst (λ i. get_or (set hs l t) i 0 ≡ lies i (set ps (item_at rows l t) Out)) (sym e)
-            (let s = get_or-set_same hs l t 0 lane in let d = lies-draw l ps (item_at rows l t) known on_top in let y = tally l in omega arith)
-        | inr ne ↦ (let s = get_or-set_other hs l m t 0 ne in let d = lies-draw_other l m ps (item_at rows l t) known on_top ne in let y = tally m in cc)
-      ]
-
-  other_item : (m k : ℕ) → k < get_or (set hs l t) m 0 → item_at rows m k ≢ item_at rows l t
-  other_item m k h =
-      elim (cases_eq m l) [
-        | inl e ↦ (λ q.
-            let s = get_or-set_same hs l t 0 lane in
-            let u = ap (λ i. get_or (set hs l t) i 0) e in
-            apart l k t (omega arith, omega arith, subst (λ i. item_at rows i k ≡ item_at rows l t) e q))
-        | inr ne ↦ Apart-by ps _ _ _ _ (sound m k (lower m k h)) on_top (lanes_differ l m ne)
-      ]
-
-  pub Sound-take : Sound (set ps (item_at rows l t) Out) rows (set hs l t)
-  Sound-take m k h = get_or-set_other ps (item_at rows l t) (item_at rows m k) Out Out (other_item m k h) ∙ sound m k (lower m k h)
-
-  pub Apart-take : Apart rows (set hs l t)
-  Apart-take m j k f = apart m j k (f.0, lower m k f.1, f.2)
-
-pub Square-put : (rows : List (List ℕ)) (l k b : ℕ) → l < 8 → l < length rows → Square rows → Square (set rows l (set (get_or rows l []) k b))
-Square-put rows l k b low row square m h =
-    elim (cases_eq m l) [
-      | inl e ↦ ap (λ i. length (get_or (set rows l (set (get_or rows l []) k b)) i [])) e
-          ∙ ap (λ (r : List ℕ). length r) (get_or-set_same rows l (set (get_or rows l []) k b) [] row)
-          ∙ length-set (get_or rows l []) k b ∙ square l low
-      | inr ne ↦ ap (λ (r : List ℕ). length r) (get_or-set_other rows l m (set (get_or rows l []) k b) [] ne) ∙ square m h
-    ]
-
-module _ (ps : List Place) (rows : List (List ℕ)) (hs : List ℕ) (l b : ℕ) (tally : Tally ps hs) (sound : Sound ps rows hs) (apart : Apart rows hs)
-    (lane : l < length hs) (row : l < length rows) (high : get_or hs l 0 < length (get_or rows l [])) (known : b < length ps) (out : place_at ps b ≡ Out) where
-  abbrev rows' : List (List ℕ)
-  rows' = set rows l (set (get_or rows l []) (get_or hs l 0) b)
-
-  abbrev hs' : List ℕ
-  hs' = set hs l (get_or hs l 0 + 1)
-
-  pub Tally-put : Tally (set ps b (Lane l)) (set hs l (get_or hs l 0 + 1))
-  Tally-put m =
-      elim (cases_eq m l) [
-        | inl e ↦ subst (λ i. get_or hs' i 0 ≡ lies i (set ps b (Lane l))) (sym e)
-            (let s = get_or-set_same hs l (get_or hs l 0 + 1) 0 lane in let d = lies-put l ps b known out in let y = tally l in omega arith)
-        | inr ne ↦ (let s = get_or-set_other hs l m (get_or hs l 0 + 1) 0 ne in let d = lies-put_other l m ps b known out ne in let y = tally m in cc)
-      ]
-
-  -- an item of the new stacks is an old one, or the new top
-  which : (m k : ℕ) → k < get_or hs' m 0 → (k < get_or hs m 0) ⊎ ((m ≡ l) × (k ≡ get_or hs l 0))
-  which m k h =
-      elim (cases_eq m l) [
-        | inl e ↦ elim (cases_eq k (get_or hs l 0)) [
-          | inl q ↦ inr (e, q)
-          | inr ne ↦ inl (
-              let s = get_or-set_same hs l (get_or hs l 0 + 1) 0 lane in
-              let u = ap (λ i. get_or hs' i 0) e in
-              let v = ap (λ i. get_or hs i 0) e in
-              omega arith)
+        | inl e ↦ subst (λ i. times c (get_or (set stacks l xs) i []) ≡ one (is_in i (place_at (set ps b p) c))) (sym e)
+            (ap (times c) (get_or-set_same stacks l xs [] lane) ∙ elim (cases_eq c b) [
+              | inl q ↦ subst (λ i. times i xs ≡ one (is_in l (place_at (set ps b p) i))) (sym q)
+                  (own ∙ sym (ap (λ r. one (is_in l r)) (get_or-set_same ps b p Out known)))
+              | inr ne ↦ rest c ne ∙ once l c ∙ sym (ap (λ r. one (is_in l r)) (get_or-set_other ps b c p Out ne))
+            ])
+        | inr ne ↦ ap (times c) (get_or-set_other stacks l m xs [] ne) ∙ once m c ∙ elim (cases_eq c b) [
+          | inl q ↦ subst (λ i. one (is_in m (place_at ps i)) ≡ one (is_in m (place_at (set ps b p) i))) (sym q)
+              (ap one (others m ne) ∙ sym (ap (λ r. one (is_in m r)) (get_or-set_same ps b p Out known)))
+          | inr other ↦ sym (ap (λ r. one (is_in m r)) (get_or-set_other ps b c p Out other))
         ]
-        | inr ne ↦ inl (let s = get_or-set_other hs l m (get_or hs l 0 + 1) 0 ne in omega arith)
       ]
 
-  item_top : item_at rows' l (get_or hs l 0) ≡ b
-  item_top =
-      let s = get_or-set_same rows l (set (get_or rows l []) (get_or hs l 0) b) [] row in
-      let u = get_or-set_same (get_or rows l []) (get_or hs l 0) b 0 high in
-      ap (λ (r : List ℕ). get_or r (get_or hs l 0) 0) s ∙ u
+-- d is the stack itself, as the code that reads it says
+module _ (ps : List Place) (stacks : List (List ℕ)) (l b : ℕ) (d xs : List ℕ)
+    (tally : Tally ps stacks) (once : Once ps stacks) (lane : l < length stacks) (known : b < length ps) where
+  read : get_or stacks l d ≡ get_or stacks l []
+  read = get_or_default stacks l d [] lane
 
-  item_kept : (m k : ℕ) → k < get_or hs m 0 → item_at rows' m k ≡ item_at rows m k
-  item_kept m k h =
-      elim (cases_eq m l) [
-        | inl e ↦ subst (λ i. item_at rows' i k ≡ item_at rows i k) (sym e)
-            (let v = ap (λ i. get_or hs i 0) e in
-            let ne : k ≢ get_or hs l 0 = omega arith in
-            let s = get_or-set_same rows l (set (get_or rows l []) (get_or hs l 0) b) [] row in
-            ap (λ (r : List ℕ). get_or r k 0) s ∙ get_or-set_other (get_or rows l []) (get_or hs l 0) k b 0 ne)
-        | inr ne ↦ ap (λ (r : List ℕ). get_or r k 0) (get_or-set_other rows l m (set (get_or rows l []) (get_or hs l 0) b) [] ne)
-      ]
+  module _ (top : get_or stacks l d ≡ xs ++ b ∷ []) where
+    times_top : times b xs + 1 ≡ one (is_in l (place_at ps b))
+    times_top = sym (times_push_same b xs) ∙ ap (times b) (sym top ∙ read) ∙ once l b
 
-  not_new : (m k : ℕ) → k < get_or hs m 0 → item_at rows m k ≢ b
-  not_new m k h = Apart-by ps _ _ _ _ (sound m k h) out (lane_not_out m)
+    in_lane : is_in l (place_at ps b) ≡ true
+    in_lane = holds_one _ (omega (arith, times_top))
 
-  pub Sound-put : Sound (set ps b (Lane l)) (set rows l (set (get_or rows l []) (get_or hs l 0) b)) (set hs l (get_or hs l 0 + 1))
-  Sound-put m k h =
-      elim (which m k h) [
-        | inl old ↦ ap (λ i. place_at (set ps b (Lane l)) i) (item_kept m k old)
-            ∙ get_or-set_other ps b (item_at rows m k) (Lane l) Out (not_new m k old) ∙ sound m k old
-        | inr new ↦
-            (let p = get_or-set_same ps b (Lane l) Out known in
-            let i = item_top in
-            let e = new.0 in
-            let q = new.1 in
-            cc)
-      ]
+    -- the buffer on top of a lane's stack lies in the lane
+    pub on_top : place_at ps b ≡ Lane l
+    on_top = in_is l _ in_lane
 
-  pub Apart-put : Apart (set rows l (set (get_or rows l []) (get_or hs l 0) b)) (set hs l (get_or hs l 0 + 1))
-  Apart-put m j k f =
-      elim (which m k f.1) [
-        | inl old ↦ (let lt : j < get_or hs m 0 = (let a = f.0 in omega arith) in
-            apart m j k (f.0, old, sym (item_kept m j lt) ∙ f.2 ∙ item_kept m k old))
-        | inr new ↦
-            (let v = ap (λ i. get_or hs i 0) new.0 in
-            let lt : j < get_or hs m 0 = (let a = f.0 in let q = new.1 in omega arith) in
-            let i = item_top in
-            let s = f.2 in
-            let e = new.0 in
-            let q = new.1 in
-            let t = item_kept m j lt in
-            let same : item_at rows m j ≡ b = cc in
-            not_new m j lt same)
-      ]
+    elsewhere : (m : ℕ) → m ≢ l → is_in m (place_at ps b) ≡ is_in m Out
+    elsewhere m ne = ap (is_in m) on_top ∙ in_other l m ne
+
+    pub Tally-pop : Tally (set ps b Out) (set stacks l xs)
+    Tally-pop =
+        Tally-moved ps stacks l b Out xs lane known elsewhere tally
+        (let i = ap one in_lane in
+        let t = ap (λ (ys : List ℕ). length ys) (sym read ∙ top) in
+        let n = length-append xs (b ∷ []) in
+        omega arith)
+
+    pub Once-pop : Once (set ps b Out) (set stacks l xs)
+    Once-pop =
+        Once-moved ps stacks l b Out xs lane known elsewhere once
+        (let o = at_most_one (is_in l (place_at ps b)) in omega (arith, times_top))
+        (λ c ne. sym (times_push_other c b xs ne) ∙ ap (times c) (sym top ∙ read))
+
+  module _ (out : place_at ps b ≡ Out) where
+    -- a stack has room while some buffer is out
+    pub height_room : length (get_or stacks l d) < length ps
+    height_room =
+        let e = ap (λ (ys : List ℕ). length ys) read in
+        let t = tally l in
+        let r = room l ps in
+        let o = held_out ps b known out in
+        omega arith
+
+    nowhere : (m : ℕ) → m ≢ l → is_in m (place_at ps b) ≡ is_in m (Lane l)
+    nowhere m ne = ap (is_in m) out ∙ sym (in_other l m ne)
+
+    module _ (top : xs ≡ get_or stacks l d ++ b ∷ []) where
+      pushed : xs ≡ get_or stacks l [] ++ b ∷ []
+      pushed = top ∙ ap (λ ys. ys ++ b ∷ []) read
+
+      pub Tally-push : Tally (set ps b (Lane l)) (set stacks l xs)
+      Tally-push =
+          Tally-moved ps stacks l b (Lane l) xs lane known nowhere tally
+          (let i = ap one (in_own l) in
+          let o = ap (λ p. one (is_in l p)) out in
+          let t = ap (λ (ys : List ℕ). length ys) pushed in
+          let n = length-append (get_or stacks l []) (b ∷ []) in
+          omega arith)
+
+      pub Once-push : Once (set ps b (Lane l)) (set stacks l xs)
+      Once-push =
+          Once-moved ps stacks l b (Lane l) xs lane known nowhere once
+          (let e = ap (times b) pushed in
+          let t = times_push_same b (get_or stacks l []) in
+          let o = once l b ∙ ap (λ p. one (is_in l p)) out in
+          let i = ap one (in_own l) in
+          omega arith)
+          (λ c ne. ap (times c) pushed ∙ times_push_other c b (get_or stacks l []) ne)

@@ -1,8 +1,10 @@
-use Rattle.std.specs.Prelude.{ℕ, suc, Bool, true, false, if◌then◌else◌, ◌&&◌, List, [], ◌∷◌, ◌==◌, nat_le, slice_index_or}
-use Rattle.pool.specs.declared.base.Place.{Place}
-use Rattle.pool.specs.declared.base.Place.TheVariants.{Out, Lane}
+use Rattle.std.specs.Prelude.{ℕ, suc, Bool, true, false, if◌then◌else◌, ◌&&◌, List, [], ◌∷◌, ◌==◌, nat_le}
+use Rattle.std.specs.Prelude.{slice_index_or}
+use Rattle.pool.specs.declared.place.Place.{Place}
+use Rattle.pool.specs.declared.place.Place.TheVariants.{Out, Lane}
 
--- what a pool fixes: the draw lane and the return lane of a sending side and a receiving worker, and the places of a new pool
+-- what a pool fixes: the draw lane and the return lane of a sending side and a receiving worker, and the places of a
+-- new pool
 pub record Lanes : Type 0 where
   pub draw : ℕ → ℕ → ℕ
   pub return : ℕ → ℕ → ℕ

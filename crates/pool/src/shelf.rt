@@ -1,70 +1,59 @@
-// The buffers of up to eight lanes: where each is, and a stack of the buffers of each lane.
+//! The buffers of N lanes: where each is, and a stack of the buffers of each lane.
 
-ghost use Rattle.std.specs.Prelude.{◌≡◌, ℕ, ◌<◌, ◌≤◌, length, replicate, if◌then◌else◌, slice_set};
-ghost use Rattle.pool.specs.declared.base.Place.TheVariants.{Out as Away, Lane as LaneOf};
+ghost use Rattle.std.specs.Prelude.{◌≡◌, ℕ, ◌<◌, length, replicate, if◌then◌else◌, slice_set};
+ghost use Rattle.pool.specs.declared.place.Place.TheVariants.{Out as Away, Lane as LaneOf};
 ghost use Rattle.pool.specs.Lanes.{place_at, is_out, lies};
-ghost use Rattle.pool.specs.Stacks.{Square, Tally, Sound, Apart, Taken, dealt};
+ghost use Rattle.pool.specs.Stacks.{Tally, Once, Taken, dealt_by};
 
-use crate::base::Place;
-
-const LANES: usize = 8;
+use crate::BUFFERS;
+use crate::laned::Layout;
+use crate::place::Place;
+use crate::stack::{Stack, empty_stacks};
 
 #[derive(Drop)]
-pub struct Shelf {
-    places: [Place; 256],
-    stacks: [[u8; 256]; 8],
-    heights: [u16; 8],
+pub struct Shelf<const N: usize> {
+    places: [Place; BUFFERS],
+    stacks: [Stack; N],
     ghost whole: { length places ≡ 256 },
-    ghost square: { Square stacks },
-    ghost tally: { Tally places heights },
-    ghost sound: { Sound places stacks heights },
-    ghost apart: { Apart stacks heights },
+    ghost tally: { Tally places stacks },
+    ghost once: { Once places stacks },
 }
 
-impl Shelf {
-    // All buffers out.
-    fn bare() -> Shelf
+impl<const N: usize> Shelf<N> {
+    fn bare() -> Shelf<N>
         ensures { result.places ≡ replicate 256 Away }
     {
         Shelf {
-            places: [Place::Out; 256],
-            stacks: [[0; 256]; 8],
-            heights: [0; 8],
+            places: [Place::Out; BUFFERS],
+            stacks: empty_stacks(),
         }
     }
 
-    // All buffers in, dealt to the lanes in shares of one size.
-    pub fn stocked(share: u16) -> Shelf
-        requires { 32 ≤ share }
-        ensures { result.places ≡ dealt share }
+    // All buffers in, each in its first lane.
+    pub fn stocked<L: Layout<N>>() -> Shelf<N>
+        ensures { result.places ≡ dealt_by L.first_lane }
     {
         let mut shelf = Shelf::bare();
-        for b in 0..256usize {
-            let _ = shelf.put(b as u8, (b as u16 / share) as u8);
+        for b in 0..=255u8 {
+            let _ = shelf.put(b, L::first_lane(b));
         }
         shelf
     }
 
     // Takes the top buffer of a lane's stack out.
     pub fn take(&mut self, lane: u8) -> Option<u8>
-        requires { lane < 8 }
+        requires { lane < N }
         ensures { Taken lane self.old.places self.new.places result }
     {
-        let at = lane as usize;
-        let height = self.heights[at];
-        if height == 0 {
-            return None;
-        }
-        let top = height - 1;
-        let buffer = self.stacks[at][top as usize];
+        let buffer = self.stacks[lane as usize].pop()?;
         self.places[buffer as usize] = Place::Out;
-        self.heights[at] = top;
         Some(buffer)
     }
 
     // Puts a buffer that is out on top of a lane's stack.
+    // yes or no, which is what the pool's calls answer
     pub fn put(&mut self, buffer: u8, lane: u8) -> bool
-        requires { lane < 8 }
+        requires { lane < N }
         ensures answer { result ≡ is_out (place_at self.old.places buffer) }
         ensures after { self.new.places
             ≡ (if is_out (place_at self.old.places buffer)
@@ -74,22 +63,16 @@ impl Shelf {
         if !self.places[buffer as usize].is_out() {
             return false;
         }
-        let at = lane as usize;
-        let height = self.heights[at];
-        self.stacks[at][height as usize] = buffer;
-        self.heights[at] = height + 1;
+        self.stacks[lane as usize].push(buffer);
         self.places[buffer as usize] = Place::Lane(lane);
         true
     }
 
-    // How many buffers a lane holds.
     pub fn count(&self, lane: u64) -> u64
         ensures { result ≡ lies lane self.now.places }
     {
-        if lane < LANES as u64 {
-            self.heights[lane as usize] as u64
-        } else {
-            0
-        }
+        self.stacks
+            .get(lane as usize)
+            .map_or(0, |stack| stack.height() as u64)
     }
 }

@@ -1,10 +1,13 @@
-// Tests of the two pools, through the trait.
+//! Tests of the two pools, through the trait.
 
 #![tactic(auto)]
 
+ghost use Rattle.std.specs.Prelude.{◌≡◌, ◌<◌, ◌≤◌, true};
+ghost use Rattle.pool.specs.Lanes.{is_pair, lies};
+
 #[cfg(test)]
 mod tests {
-    use pool::base::Pool;
+    use pool::Pool;
     use pool::common::CommonPool;
     use pool::receiver::ReceiverPool;
     use std::test::Fail;
@@ -13,18 +16,18 @@ mod tests {
     const TRIES: u64 = 300;
 
     // Sends with each grant that the pair is given, and says how many there were.
-    fn drain<P: Pool>(pool: &mut P, side: u8, worker: u8) -> u64 {
-        let mut sent = 0;
-        for i in 0..TRIES {
-            match pool.draw(side, worker) {
-                Some(grant) => {
-                    let _ = grant.send();
-                    sent = i + 1;
-                }
-                None => return sent,
-            }
+    fn drain<P: Pool>(pool: &mut P, side: u8, worker: u8) -> u64
+        ensures few { result ≤ 300 }
+        ensures none_left { result < 300 → is_pair side worker ≡ true
+            → lies (P.lanes.draw side worker) (P.places pool.new) ≡ 0 }
+    {
+        for sent in 0..TRIES {
+            let Some(grant) = pool.draw(side, worker) else {
+                return sent;
+            };
+            let _ = grant.send();
         }
-        sent
+        TRIES
     }
 
     #[test]

@@ -1,20 +1,16 @@
-use Rattle.std.proofs.Common.{◌/◌, ap, ◌∙◌, arith}
+use Rattle.std.proofs.Common.{ap, ◌∙◌, arith}
+use Rattle.std.proofs.lemmas.Grind.{common_steps}
 use Rattle.std.proofs.lemmas.List.FromFn.{fill_by_all}
-use Rattle.pool.specs.declared.base.Place.TheVariants.{Out, Lane}
+use Rattle.pool.specs.declared.place.Place.TheVariants.{Out, Lane}
 use Rattle.pool.specs.Lanes.{place_at}
-use Rattle.pool.specs.Stocking.{everywhere, lane_low}
+use Rattle.pool.specs.Stocking.{everywhere}
 use Rattle.pool.proofs.shelf.Shelf.stocked.Goals as goal
 
 pub loop-b-init : goal.loop-b-init
-loop-b-init c = (
-  (λ k h. let z : ⊥ = omega arith in absurd z),
-  (λ k h. ap (λ ps. place_at ps k) c.bare-shelf.ensures ∙ everywhere 256 k Out),
-)
+loop-b-init g c =
+    (λ k h. absurd (omega arith), λ k h. ap (λ ps. place_at ps k) c.bare-shelf.ensures ∙ everywhere 256 k Out)
 
-pub put-requires : goal.put-requires
-put-requires c = lane_low c.loop-b.b c.args.share (omega arith) c.requires
-
-pub returns : goal.returns
-returns c =
-    fill_by_all (λ b. Lane (b / c.args.share)) c.loop-b.shelf.places 256 Out c.loop-b.shelf.whole
-    (λ k h. c.loop-b.invariant.0 k (omega arith))
+pub returns-2 : goal.returns-2
+returns-2 g c =
+    fill_by_all (λ b. Lane (g.L.Layout.first_lane b)) _ 256 Out c.put.new.self.whole
+    (λ k h. grind (arith, common_steps))

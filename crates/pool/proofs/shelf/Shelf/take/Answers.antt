@@ -1,23 +1,23 @@
-use Rattle.std.proofs.Common.{◌≡◌, ◌+◌, ◌-◌, ◌<◌, length, get_or, ◌∙◌, arith, length-set}
-use Rattle.pool.specs.declared.base.Place.TheVariants.{Out}
-use Rattle.pool.specs.Stacks.{item_at}
-use Rattle.pool.proofs.Keeping.{height_most, Tally-take, Sound-take, Apart-take}
+use Rattle.std.proofs.Common.{◌<◌, length, refl, ◌∙◌, arith, length-set}
+use Rattle.pool.specs.declared.place.Place.TheVariants.{Out}
+use Rattle.pool.proofs.Keeping.{on_top, Tally-pop, Once-pop}
 use Rattle.pool.proofs.shelf.Shelf.take.Goals as goal
 
-pub bounds-self-top : goal.bounds-self-top
-bounds-self-top c = let m = height_most _ _ c.args.lane c.args.self.now.tally in omega arith
-
-pub invariant_of-self : goal.invariant_of-self
-invariant_of-self c =
+pub invariant_of-self-2 : goal.invariant_of-self-2
+invariant_of-self-2 g c =
     let s = c.args.self.now in
-    let l = c.args.lane in
-    let t = get_or s.heights l 0 - 1 in
-    let lane : l < length s.heights = omega arith in
-    let top : t + 1 ≡ get_or s.heights l 0 = omega arith in
-    let known : item_at s.stacks l t < length s.places = omega arith in record {
-      whole = length-set s.places (item_at s.stacks l t) Out ∙ s.whole;
-      square = s.square;
-      tally = Tally-take s.places s.stacks s.heights l t s.tally s.sound s.apart lane top known;
-      sound = Sound-take s.places s.stacks s.heights l t s.tally s.sound s.apart lane top known;
-      apart = Apart-take s.places s.stacks s.heights l t s.tally s.sound s.apart lane top known;
+    let b = c.in_ok-buffer.buffer in
+    let lane : c.args.lane < length s.stacks = omega arith in
+    let known : b < length s.places = omega arith in
+    let top = c.in_ok-buffer.ensures in record {
+      whole = length-set s.places b Out ∙ s.whole;
+      tally = Tally-pop s.places s.stacks _ b _ _ s.tally s.once lane known top;
+      once = Once-pop s.places s.stacks _ b _ _ s.tally s.once lane known top;
     }
+
+pub returns : goal.returns
+returns g c =
+    let s = c.args.self.now in
+    let lane : c.args.lane < length s.stacks = omega arith in
+    let known : c.in_ok-buffer.buffer < length s.places = omega arith in
+    (omega arith, on_top s.places s.stacks _ _ _ _ s.tally s.once lane known c.in_ok-buffer.ensures, refl)
