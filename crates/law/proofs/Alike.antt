@@ -1,18 +1,22 @@
--- Two machines that differ in the names of their buffers: a renaming leads from the live messages of one to those of the other, and
--- replacing the same part in both leaves it so.
-use Rattle.std.proofs.Common.{◌≡◌, ℕ, zero, suc, ◌+◌, ◌<◌, Bool, true, false, cond, ltb, List, [], ◌∷◌, map, length, get_or, set, Some, None, Option, sym, refl, ap, ◌∙◌, ap₂, inl, inr, arith}
-use Rattle.std.proofs.lemmas.List.{get_or_past, get_or-set_same, get_or-set_other, length-set, length-map, map-set, map_push}
+-- Two machines that differ in the names of their buffers: a renaming leads from the live messages of one to those of
+-- the other, and replacing the same part in both leaves it so.
+use Rattle.std.proofs.Common.{◌≡◌, ℕ, zero, suc, ◌+◌, ◌<◌, Bool, true, false, cond, ltb, List, [], ◌∷◌, map, length}
+use Rattle.std.proofs.Common.{get_or, set, Some, None, Option, sym, refl, ap, ◌∙◌, ap₂, inl, inr, arith}
+use Rattle.std.proofs.lemmas.List.{get_or_past, get_or-set_same, get_or-set_other, length-set, length-map, map-set}
+use Rattle.std.proofs.lemmas.List.{map_push}
 use Rattle.std.proofs.lemmas.Bool.{cases_Bool, cases_eq, cases_lt, both_ways}
 use Rattle.model.specs.Meaning.{listed, many}
-use Rattle.model.specs.declared.base.Few.{Few}
-use Rattle.model.specs.declared.base.Few.TheVariants.{Nothing, One, Two}
+use Rattle.model.specs.declared.reaction.Few.{Few}
+use Rattle.model.specs.declared.reaction.Few.TheVariants.{Nothing, One, Two}
+use Rattle.pool.specs.Laws.{lies-set, one}
 use Rattle.pool.specs.Lanes.{Lanes, place_at, is_in, lies}
-use Rattle.pool.specs.declared.base.Place.{Place}
-use Rattle.pool.specs.declared.base.Place.TheVariants.{Out, Lane}
-use Rattle.sequential.specs.declared.base.Process.{Process}
-use Rattle.machine.specs.Machine.{Machine, Worker, blank, idle, at, worker, is_done, with_message, with_worker, with_process, with_outside, enter, entered, first, rest, few, lower, left, freed}
-use Rattle.machine.specs.declared.base.Message.{Message}
-use Rattle.machine.specs.declared.base.Plan.{Plan}
+use Rattle.pool.specs.declared.place.Place.{Place}
+use Rattle.pool.specs.declared.place.Place.TheVariants.{Out, Lane}
+use Rattle.sequential.specs.declared.event.Process.{Process}
+use Rattle.machine.specs.Machine.{Machine, Worker, blank, idle, at, worker, is_done, with_message, with_worker}
+use Rattle.machine.specs.Machine.{with_process, with_outside, enter, entered, first, rest, few, lower, popped, freed}
+use Rattle.machine.specs.declared.message.Message.{Message}
+use Rattle.machine.specs.declared.plan.Plan.{Plan}
 use Rattle.law.proofs.Freed.{out_lane}
 use Rattle.law.proofs.Invariant.{is_live, lives}
 use Rattle.law.proofs.Members.{In}
@@ -64,10 +68,10 @@ entered-map f b xs = elim (cases_Bool (ltb (length xs) 256)) [
 
 -- a message and a worker, with their buffers renamed
 abbrev pub renamed : (ℕ → ℕ) → Message → Message
-renamed f m = record { phase = m.phase; cancelled = m.cancelled; event = m.event; snapshot = m.snapshot; outcome = m.outcome; sent = mapped f m.sent }
+renamed f m = record m { sent = mapped f m.sent }
 
 abbrev pub relabelled : (ℕ → ℕ) → Worker → Worker
-relabelled f x = record { inbox = map f x.inbox; floor = x.floor; report = x.report }
+relabelled f x = record x { inbox = map f x.inbox }
 
 abbrev pub alive : Message → Bool
 alive m = is_live m.phase
@@ -97,31 +101,24 @@ pub record Alike (f g : ℕ → ℕ) (s s' : Machine) : Type 0 where
 
 -- ---- how many buffers lie in a lane
 
-abbrev tick : ℕ → Place → ℕ
-tick l p = cond (is_in l p) 1 0
-
-pub lies-set : (l : ℕ) (xs : List Place) (b : ℕ) (k : Place) → b < length xs → lies l (set xs b k) + tick l (place_at xs b) ≡ lies l xs + tick l k
-unfolding lies
-lies-set l [] b k i = absurd (omega arith)
-lies-set l (x ∷ xs) zero k i = elim (cases_Bool (is_in l x)) [
-  | inl h ↦ elim (cases_Bool (is_in l k)) [ inl h' ↦ rw (h, h') (omega arith) | inr h' ↦ rw (h, h') (omega arith) ]
-  | inr h ↦ elim (cases_Bool (is_in l k)) [ inl h' ↦ rw (h, h') (omega arith) | inr h' ↦ rw (h, h') (omega arith) ]
-]
-lies-set l (x ∷ xs) (suc b) k i = let r = lies-set l xs b k (omega arith) in elim (cases_Bool (is_in l x)) [ inl h ↦ rw h (omega arith) | inr h ↦ rw h r ]
-
 -- the same place replaced by the same place
-pub lies_alike : (l : ℕ) (xs ys : List Place) (b c : ℕ) (k : Place) → b < length xs → c < length ys → place_at xs b ≡ place_at ys c → lies l ys ≡ lies l xs → lies l (set ys c k) ≡ lies l (set xs b k)
+pub lies_alike : (l : ℕ) (xs ys : List Place) (b c : ℕ) (k : Place) → b < length xs → c < length ys →
+    place_at xs b ≡ place_at ys c → lies l ys ≡ lies l xs → lies l (set ys c k) ≡ lies l (set xs b k)
 lies_alike l xs ys b c k i j e h =
     let p = lies-set l xs b k i in
-    let q : lies l (set ys c k) + tick l (place_at xs b) ≡ lies l ys + tick l k = rw e (lies-set l ys c k j) in omega arith
+    let q : lies l (set ys c k) + one (is_in l (place_at xs b)) ≡ lies l ys + one (is_in l k) = rw e (lies-set l ys c k j) in
+    omega arith
 
 pub in_lane_within : (xs : List Place) (b l : ℕ) → place_at xs b ≡ Lane l → b < length xs
-in_lane_within xs b l h = elim (cases_lt b (length xs)) [ inl i ↦ i | inr g ↦ absurd (out_lane (sym (get_or_past xs b Out g) ∙ h)) ]
+in_lane_within xs b l h =
+    elim (cases_lt b (length xs)) [ inl i ↦ i | inr g ↦ absurd (out_lane (sym (get_or_past xs b Out g) ∙ h)) ]
 
 -- ---- one message replaced
 
-module _ {f g : ℕ → ℕ} {msg msg' n n' : ℕ → Message} {b : ℕ} {m : Message} (N : Named f g msg msg') (l : alive (msg b) ≡ true)
-    (here : n b ≡ m) (others : (c : ℕ) → (c ≡ b → ⊥) → n c ≡ msg c) (here' : n' (f b) ≡ renamed f m) (others' : (c : ℕ) → (c ≡ f b → ⊥) → n' c ≡ msg' c) where
+module _ {f g : ℕ → ℕ} {msg msg' n n' : ℕ → Message} {b : ℕ} {m : Message} (N : Named f g msg msg')
+    (l : alive (msg b) ≡ true)
+    (here : n b ≡ m) (others : (c : ℕ) → (c ≡ b → ⊥) → n c ≡ msg c) (here' : n' (f b) ≡ renamed f m)
+    (others' : (c : ℕ) → (c ≡ f b → ⊥) → n' c ≡ msg' c) where
   was_alive : (c : ℕ) → alive (n c) ≡ true → alive (msg c) ≡ true
   was_alive c h = elim (cases_eq c b) [ inl e ↦ rw e l | inr k ↦ rw (others c k) at h ]
 
@@ -144,7 +141,10 @@ module _ {f g : ℕ → ℕ} {msg msg' n n' : ℕ → Message} {b : ℕ} {m : Me
     where
       back' : (c : ℕ) → alive (n' c) ≡ true → (alive (n (g c)) ≡ true) × (f (g c) ≡ c)
       back' c h = elim (cases_eq c (f b)) [
-        | inl e ↦ (rw (e, N.fore b l, here) (let x : alive (n' (f b)) ≡ true = rw e at h in rw here' at x), rw (e, N.fore b l) refl)
+        | inl e ↦ (
+          rw (e, N.fore b l, here) (let x : alive (n' (f b)) ≡ true = rw e at h in rw here' at x),
+          rw (e, N.fore b l) refl,
+        )
         | inr k ↦ (let x = N.back c (rw (others' c k) at h) in (rw (others (g c) (λ e. k (sym x.1 ∙ ap f e))) x.0, x.1))
       ]
 
@@ -162,7 +162,8 @@ module _ {f g : ℕ → ℕ} {s s' : Machine} (A : Alike f g s s') where
       go (x ∷ xs) zero = refl
       go (x ∷ xs) (suc w) = go xs w
 
-  pub Alike-message : (b : ℕ) (m m' : Message) → lives s b ≡ true → m' ≡ renamed f m → (is_done m.phase ≡ false → m.sent ≡ Nothing) → Alike f g (with_message b m s) (with_message (f b) m' s')
+  pub Alike-message : (b : ℕ) (m m' : Message) → lives s b ≡ true → m' ≡ renamed f m →
+      (is_done m.phase ≡ false → m.sent ≡ Nothing) → Alike f g (with_message b m s) (with_message (f b) m' s')
   Alike-message b m m' l e q = record {
     named = N;
     pooled = record { lanes = A.pooled.lanes; out = λ c h. A.pooled.out c (was c h) };
@@ -244,17 +245,23 @@ module _ {f g : ℕ → ℕ} {s s' : Machine} (A : Alike f g s s') where
   unfolding enter
   Alike-enter j b = Alike-worker j _ _ (rw (worker_there j, entered-map f b (worker s j).inbox) refl)
 
-  pub Alike-left : (w : ℕ) → Alike f g (left w s) (left w s')
-  unfolding left
-  Alike-left w = Alike-worker w _ _ (rw (worker_there w, rest-map f (worker s w).inbox) refl)
+  pub Alike-popped : (w : ℕ) → Alike f g (popped w s) (popped w s')
+  unfolding popped
+  Alike-popped w = Alike-worker w _ _ (rw (worker_there w, rest-map f (worker s w).inbox) refl)
 
   pub Alike-freed : (l : Lanes) (u : Plan) (b : ℕ) → lives s b ≡ true → Alike f g (freed l u b s) (freed l u (f b) s')
   unfolding freed
   Alike-freed l u b h = rw (A.named.is b h) (record {
     named = M.named;
     pooled = record {
-      lanes = λ k. lies_alike k s.places s'.places b (f b) _ (let i = live_within s b h in let j = A.sized in omega arith) (let i = live_within s' (f b) (live_there b h) in let j = A.sized' in omega arith) (o.0 ∙ sym o.1) (A.pooled.lanes k);
-      out = λ c x. let y = was c x in (get_or-set_other s.places b c _ Out y.0 ∙ (A.pooled.out c y.1).0, get_or-set_other s'.places (f b) (f c) _ Out (apart' c y.1 y.0) ∙ (A.pooled.out c y.1).1);
+      lanes =
+          λ k. lies_alike k s.places s'.places b (f b) _ (let i = live_within s b h in let j = A.sized in omega arith)
+          (let i = live_within s' (f b) (live_there b h) in let j = A.sized' in omega arith) (o.0 ∙ sym o.1)
+          (A.pooled.lanes k);
+      out = λ c x. let y = was c x in (
+        get_or-set_other s.places b c _ Out y.0 ∙ (A.pooled.out c y.1).0,
+        get_or-set_other s'.places (f b) (f c) _ Out (apart' c y.1 y.0) ∙ (A.pooled.out c y.1).1,
+      );
     };
     workers = A.workers;
     sized = length-set s.places b _ ∙ M.sized;
@@ -273,7 +280,10 @@ module _ {f g : ℕ → ℕ} {s s' : Machine} (A : Alike f g s s') where
       o = A.pooled.out b h
 
       was : (c : ℕ) → lives (with_message b blank s) c ≡ true → (c ≡ b → ⊥) × (lives s c ≡ true)
-      was c x = let n : c ≡ b → ⊥ = λ e. both_ways _ (ap (λ (m : Message). is_live m.phase) (get_or-set_same s.messages b blank blank (live_within s b h))) (rw e at x) in
+      was c x =
+          let n : c ≡ b → ⊥ = λ e. both_ways _
+          (ap (λ (m : Message). is_live m.phase) (get_or-set_same s.messages b blank blank (live_within s b h)))
+          (rw e at x) in
           (n, rw (get_or-set_other s.messages b c blank blank n) at x)
 
       apart' : (c : ℕ) → lives s c ≡ true → (c ≡ b → ⊥) → f c ≡ f b → ⊥

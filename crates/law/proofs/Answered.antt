@@ -1,22 +1,26 @@
--- Every call is answered: a call is refused, or each lane that it draws from holds as many buffers as it asks for, so that they
--- can be drawn one after the other. With the uniqueness of answers, a list of calls has exactly one transcript.
-use Rattle.std.proofs.Common.{◌≡◌, ℕ, suc, ◌+◌, ◌≤◌, Bool, true, false, eqb, leb, ◌⊎◌, List, [], ◌∷◌, set, Some, None, Option, sym, refl, ap, ◌∙◌, inl, inr, arith}
+-- Every call is answered: a call is refused, or each lane that it draws from holds as many buffers as it asks for, so
+-- that they can be drawn one after the other. With the uniqueness of answers, a list of calls has exactly one
+-- transcript.
+use Rattle.std.proofs.Common.{◌≡◌, ℕ, suc, ◌+◌, ◌≤◌, Bool, true, false, eqb, leb, ◌⊎◌, List, [], ◌∷◌, set, Some, None}
+use Rattle.std.proofs.Common.{Option, sym, refl, ap, ◌∙◌, inl, inr, arith}
 use Rattle.std.proofs.lemmas.Bool.{cases_eq, cond-true, cond-false, eq-eqb, ne_eqb, leb-true, true≢false}
 use Rattle.pool.specs.Lanes.{place_at, lies}
-use Rattle.pool.specs.declared.base.Place.{Place}
-use Rattle.pool.specs.declared.base.Place.TheVariants.{Out, Lane}
-use Rattle.sequential.specs.declared.base.Line.{Line}
-use Rattle.machine.specs.Calls.{World, Transcript, Drawn, Does, Run, asked, enough, refusal, draws, does, answers}
+use Rattle.pool.specs.declared.place.Place.{Place}
+use Rattle.pool.specs.declared.place.Place.TheVariants.{Out, Lane}
+use Rattle.sequential.specs.declared.event.Line.{Line}
+use Rattle.machine.specs.Calls.{World, Transcript, DrawnAll, Does, Run, asked, enough, refusal, lanes_drawn, does}
+use Rattle.machine.specs.Calls.{answers}
 use Rattle.machine.specs.Calls.Does.{refuses, acts}
-use Rattle.machine.specs.Calls.Drawn.{none as no_lanes, one as from_lane}
+use Rattle.machine.specs.Calls.DrawnAll.{none as no_lanes, one as from_lane}
 use Rattle.machine.specs.Calls.Run.{rests, goes}
 use Rattle.machine.specs.Machine.{Machine}
-use Rattle.machine.specs.declared.base.Answer.{Answer}
-use Rattle.machine.specs.declared.base.Answer.TheVariants.{Refused}
-use Rattle.machine.specs.declared.base.Call.{Call}
-use Rattle.machine.specs.declared.base.Refusal.{Refusal}
-use Rattle.law.specs.Law.{start, calls_of, EveryCallIsAnswered}
-use Rattle.law.proofs.Alike.{lies-set, in_lane_within}
+use Rattle.machine.specs.declared.call.Answer.{Answer}
+use Rattle.machine.specs.declared.call.Answer.TheVariants.{Refused}
+use Rattle.machine.specs.declared.call.Call.{Call}
+use Rattle.machine.specs.declared.refusal.Refusal.{Refusal}
+use Rattle.law.specs.Law.{start, calls_in, EveryCallIsAnswered}
+use Rattle.pool.specs.Laws.{lies-set}
+use Rattle.law.proofs.Alike.{in_lane_within}
 use Rattle.law.proofs.Fixed.{answers_fixed}
 use Rattle.law.proofs.Members.{In}
 use Rattle.law.proofs.Refusals.{stocked}
@@ -36,14 +40,21 @@ asked_in : (l : ℕ) (ls : List ℕ) → (asked l ls ≡ 0) ⊎ In l ls
 asked_in l [] = inl refl
 asked_in l (k ∷ ls) = elim (cases_eq k l) [
   | inl e ↦ inr (inl (sym e))
-  | inr n ↦ elim (asked_in l ls) [ inl z ↦ inl (cond-false (eqb k l) (suc (asked l ls)) (asked l ls) (ne_eqb k l n) ∙ z) | inr i ↦ inr (inr i) ]
+  | inr n ↦
+      elim (asked_in l ls) [
+        | inl z ↦
+            inl (cond-false (eqb k l) (suc (asked l ls)) (asked l ls) (ne_eqb k l n) ∙ z)
+        | inr i ↦ inr (inr i)
+      ]
 ]
 
-enough_in : (places : List Place) (all ls : List ℕ) (l : ℕ) → enough places all ls ≡ true → In l ls → asked l all ≤ lies l places
+enough_in : (places : List Place) (all ls : List ℕ) (l : ℕ) → enough places all ls ≡ true → In l ls →
+    asked l all ≤ lies l places
 enough_in places all [] l h i = absurd i
 enough_in places all (k ∷ ks) l h i = go (leb (asked k all) (lies k places)) refl i (enough_in places all ks l)
   where
-    go : (t : Bool) → leb (asked k all) (lies k places) ≡ t → In l (k ∷ ks) → (enough places all ks ≡ true → In l ks → asked l all ≤ lies l places) → asked l all ≤ lies l places
+    go : (t : Bool) → leb (asked k all) (lies k places) ≡ t → In l (k ∷ ks) →
+        (enough places all ks ≡ true → In l ks → asked l all ≤ lies l places) → asked l all ≤ lies l places
     go true t (inl e) f = rw e (leb-true _ _ t)
     go true t (inr j) f = f (rw t at h) j
     go false t j f = absurd (true≢false (sym (rw t at h)))
@@ -58,17 +69,25 @@ lies_some l n (Lane m ∷ ps) h = elim (cases_eq m l) [
 ]
 
 -- buffers can be drawn from lanes that hold as many as are asked of them
-drawable : (ls : List ℕ) (places : List Place) → ((l : ℕ) → asked l ls ≤ lies l places) → (bs : List ℕ) × Drawn places ls bs
+drawable : (ls : List ℕ) (places : List Place) → ((l : ℕ) → asked l ls ≤ lies l places) →
+    (bs : List ℕ) × DrawnAll places ls bs
 drawable [] places h = ([], no_lanes)
-drawable (l ∷ ls) places h = go (lies_some l (asked l ls) places (let i = h l in let j = asked_here l ls in omega arith)) (drawable ls)
+drawable (l ∷ ls) places h =
+    go (lies_some l (asked l ls) places (let i = h l in let j = asked_here l ls in omega arith)) (drawable ls)
   where
     left : (b : ℕ) → place_at places b ≡ Lane l → (k : ℕ) → asked k ls ≤ lies k (set places b Out)
     left b e k = let s = lies-set k places b Out (in_lane_within places b l e) in elim (cases_eq l k) [
-      | inl q ↦ (let i = h k in let j : asked k (l ∷ ls) ≡ suc (asked k ls) = rw q (asked_here k ls) in let t : lies k (set places b Out) + 1 ≡ lies k places + 0 = rw (e, eq-eqb l k q) at s in omega arith)
-      | inr n ↦ (let i = h k in let j = asked_more k l ls in let t : lies k (set places b Out) + 0 ≡ lies k places + 0 = rw (e, ne_eqb l k n) at s in omega arith)
+      | inl q ↦
+          (let i = h k in let j : asked k (l ∷ ls) ≡ suc (asked k ls) = rw q (asked_here k ls) in
+          let t : lies k (set places b Out) + 1 ≡ lies k places + 0 = rw (e, eq-eqb l k q) at s in omega arith)
+      | inr n ↦
+          (let i = h k in let j = asked_more k l ls in
+          let t : lies k (set places b Out) + 0 ≡ lies k places + 0 = rw (e, ne_eqb l k n) at s in omega arith)
     ]
 
-    go : (b : ℕ) × (place_at places b ≡ Lane l) → ((places : List Place) → ((k : ℕ) → asked k ls ≤ lies k places) → (bs : List ℕ) × Drawn places ls bs) → (bs : List ℕ) × Drawn places (l ∷ ls) bs
+    go : (b : ℕ) × (place_at places b ≡ Lane l) →
+        ((places : List Place) → ((k : ℕ) → asked k ls ≤ lies k places) → (bs : List ℕ) × DrawnAll places ls bs) →
+        (bs : List ℕ) × DrawnAll places (l ∷ ls) bs
     go (b, e) f = let r = f (set places b Out) (left b e) in (b ∷ r.0, from_lane e r.1)
 
 -- ---- calls
@@ -79,11 +98,15 @@ answered W s c = go (refusal W s c) refl
     go : (o : Option Refusal) → refusal W s c ≡ o → (a : Answer (List Line)) × (s' : Machine) × Does W s c a s'
     go (Some r) h = (Refused r, s, refuses r h)
     go None h =
-        let d = drawable (draws W s c) s.places (λ l. elim (asked_in l (draws W s c)) [ inl z ↦ omega arith | inr i ↦ enough_in s.places (draws W s c) (draws W s c) l (stocked W s c h) i ]) in
+        let d = drawable (lanes_drawn W s c) s.places
+        (λ l. elim (asked_in l (lanes_drawn W s c)) [
+          | inl z ↦ omega arith
+          | inr i ↦ enough_in s.places (lanes_drawn W s c) (lanes_drawn W s c) l (stocked W s c h) i
+        ]) in
         (answers W s c, does W s c d.0, acts d.0 h d.1)
 
 -- the calls made one after the other
-made : (W : World) (cs : List Call) (s : Machine) → (r : Transcript) × (s' : Machine) × Run W s r s' × (calls_of r ≡ cs)
+made : (W : World) (cs : List Call) (s : Machine) → (r : Transcript) × (s' : Machine) × Run W s r s' × (calls_in r ≡ cs)
 made W [] s = ([], s, rests, refl)
 made W (c ∷ cs) s =
     let d = answered W s c in

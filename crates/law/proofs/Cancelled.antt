@@ -1,10 +1,12 @@
 -- What cancelling a message does to a machine, part by part.
-use Rattle.std.proofs.Common.{◌≡◌, ℕ, ◌<◌, ◌≤◌, min, true, false, [], ◌∷◌, ◌++◌, length, set, refl, ap, ◌∙◌, inl, inr, arith}
+use Rattle.std.proofs.Common.{◌≡◌, ℕ, ◌<◌, ◌≤◌, min, true, false, [], ◌∷◌, ◌++◌, length, set, refl, ap, ◌∙◌, inl, inr}
+use Rattle.std.proofs.Common.{arith}
 use mathlib.Core.Path.{fun_ext}
 use Rattle.std.proofs.lemmas.List.{get_or-set_same, get_or-set_other, length-set}
 use Rattle.std.proofs.lemmas.Bool.{cases_Bool, cases_eq, both_ways}
-use Rattle.machine.specs.Machine.{Machine, Worker, idle, at, worker, home, marked, lower, enter, entered, with_message, is_transit, cancelled}
-use Rattle.machine.specs.declared.base.Plan.{Plan}
+use Rattle.machine.specs.Machine.{Machine, Worker, idle, at, worker, home, marked, lower, enter, entered, with_message}
+use Rattle.machine.specs.Machine.{is_transit, cancelled}
+use Rattle.machine.specs.declared.plan.Plan.{Plan}
 use Rattle.law.proofs.Cancel.{Lowering}
 use Rattle.law.proofs.Invariant.{floors, reports}
 use Rattle.law.proofs.Members.{get_or-set_keeps}
@@ -26,7 +28,12 @@ lower-floors s w t l = record { falls = rw here (omega arith); least = least'; k
     least' v = elim (cases_eq v w) [ inl e ↦ rw (e, here) (omega arith) | inr n ↦ rw (there v n) (omega arith) ]
 
     keeps' : (x v : ℕ) → x ≤ floors s v → x ≤ t → x ≤ floors (lower w t s) v
-    keeps' x v h k = elim (cases_eq v w) [ inl e ↦ rw (e, here) (let i : x ≤ floors s w = rw e at h in omega arith) | inr n ↦ rw (there v n) h ]
+    keeps' x v h k =
+        elim (cases_eq v w) [
+          | inl e ↦ rw (e, here) (let i : x ≤ floors s w = rw e at h in omega arith)
+          | inr n ↦
+              rw (there v n) h
+        ]
 
 -- what cancelling b by the worker w does to a machine
 pub record Cancels (u : Plan) (w b : ℕ) (s s' : Machine) : Type 0 where
@@ -41,10 +48,13 @@ pub record Cancels (u : Plan) (w b : ℕ) (s s' : Machine) : Type 0 where
   pub lowers : Lowering (floors s) (floors s') w (at s b).event.time
   pub reported : reports s' ≡ reports s
   pub elsewhere : (v : ℕ) → (v ≡ home u (at s b).event.process → ⊥) → (worker s' v).inbox ≡ (worker s v).inbox
-  pub coming : is_transit (at s b).phase ≡ true → (worker s' (home u (at s b).event.process)).inbox ≡ (worker s (home u (at s b).event.process)).inbox
-  pub enters : is_transit (at s b).phase ≡ false → (worker s' (home u (at s b).event.process)).inbox ≡ (worker s (home u (at s b).event.process)).inbox ++ b ∷ []
+  pub coming : is_transit (at s b).phase ≡ true →
+      (worker s' (home u (at s b).event.process)).inbox ≡ (worker s (home u (at s b).event.process)).inbox
+  pub enters : is_transit (at s b).phase ≡ false →
+      (worker s' (home u (at s b).event.process)).inbox ≡ (worker s (home u (at s b).event.process)).inbox ++ b ∷ []
 
-module _ (u : Plan) (w b : ℕ) (s : Machine) (l : w < length s.workers) (k : home u (at s b).event.process < length s.workers)
+module _ (u : Plan) (w b : ℕ) (s : Machine) (l : w < length s.workers)
+    (k : home u (at s b).event.process < length s.workers)
     (r : is_transit (at s b).phase ≡ false → length (worker s (home u (at s b).event.process)).inbox < 256) where
   h : ℕ
   h = home u (at s b).event.process
@@ -101,7 +111,9 @@ module _ (u : Plan) (w b : ℕ) (s : Machine) (l : w < length s.workers) (k : ho
     reported = fun_ext (λ v. entered-report v ∙ lowered_report v);
     elsewhere = λ v n. ap (λ (x : Worker). x.inbox) (get_or-set_other lowered.workers h v _ idle n) ∙ lowered_inbox v;
     coming = λ t. absurd (both_ways _ f t);
-    enters = λ _. ap (λ (x : Worker). x.inbox) (get_or-set_same lowered.workers h _ idle (rw (length-set s.workers w _) k)) ∙ ap (entered b) (lowered_inbox h) ∙ entered_room b (worker s h).inbox (r f);
+    enters =
+        λ _. ap (λ (x : Worker). x.inbox) (get_or-set_same lowered.workers h _ idle (rw (length-set s.workers w _) k)) ∙
+        ap (entered b) (lowered_inbox h) ∙ entered_room b (worker s h).inbox (r f);
   }
 
   pub cancels : Cancels u w b s (cancelled u w b s)

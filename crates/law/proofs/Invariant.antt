@@ -1,21 +1,22 @@
 -- What every machine of a run keeps, over its parts as functions of the buffer, the worker or the process.
 -- Each record reads only the parts that it names, so a call that leaves those alone keeps it by a path.
-use Rattle.std.proofs.Common.{◌≡◌, ℕ, ◌<◌, ◌≤◌, Bool, true, false, ◌⊎◌, List, [], ◌∷◌, ◌++◌, map, length, Some, None, Option, sym, refl, inl, inr, arith}
+use Rattle.std.proofs.Common.{◌≡◌, ℕ, ◌<◌, ◌≤◌, Bool, true, false, ◌⊎◌, List, [], ◌∷◌, ◌++◌, map, length, Some, None}
+use Rattle.std.proofs.Common.{Option, sym, refl, inl, inr, arith}
 use Rattle.std.proofs.lemmas.Bool.{true≢false}
 use Rattle.model.specs.Meaning.{listed}
 use Rattle.pool.specs.Lanes.{place_at}
-use Rattle.pool.specs.declared.base.Place.{Place}
-use Rattle.pool.specs.declared.base.Place.TheVariants.{Out}
+use Rattle.pool.specs.declared.place.Place.{Place}
+use Rattle.pool.specs.declared.place.Place.TheVariants.{Out}
 use Rattle.sequential.proofs.Keys.{SameKey}
-use Rattle.sequential.specs.Events.{outside, earlier, applied, moved}
-use Rattle.sequential.specs.declared.base.Event.{Event}
-use Rattle.sequential.specs.declared.base.Outcome.{Outcome}
-use Rattle.sequential.specs.declared.base.Process.{Process}
+use Rattle.sequential.specs.Events.{outside, earlier, applied, process_after}
+use Rattle.sequential.specs.declared.event.Event.{Event}
+use Rattle.sequential.specs.declared.event.Outcome.{Outcome}
+use Rattle.sequential.specs.declared.event.Process.{Process}
 use Rattle.machine.specs.Calls.{World}
 use Rattle.machine.specs.Machine.{Machine, is_transit, is_pending, is_done, at, worker, process, home}
-use Rattle.machine.specs.declared.base.Message.{Message}
-use Rattle.machine.specs.declared.base.Phase.{Phase}
-use Rattle.machine.specs.declared.base.Phase.TheVariants.{Free, Transit, Pending, Done}
+use Rattle.machine.specs.declared.message.Message.{Message}
+use Rattle.machine.specs.declared.message.Phase.{Phase}
+use Rattle.machine.specs.declared.message.Phase.TheVariants.{Free, Transit, Pending, Done}
 use Rattle.law.proofs.Members.{In, Apart}
 
 abbrev pub is_live : Phase → Bool
@@ -109,8 +110,10 @@ Queue gone event (b ∷ bs) = (gone b ≡ false → (c : ℕ) → In c bs → Sa
 
 pub record Keyed (live moving gone : ℕ → Bool) (event : ℕ → Event) (box : ℕ → List ℕ) : Type 0 where
   pub queues : (w : ℕ) → Queue gone event (box w)
-  pub arriving : (b c : ℕ) → moving b ≡ true → live c ≡ true → moving c ≡ false → gone c ≡ false → SameKey (event b) (event c) → ⊥
-  pub arrived : (b c : ℕ) → live b ≡ true → moving b ≡ false → live c ≡ true → moving c ≡ false → SameKey (event b) (event c) → b ≡ c
+  pub arriving : (b c : ℕ) → moving b ≡ true → live c ≡ true → moving c ≡ false → gone c ≡ false →
+      SameKey (event b) (event c) → ⊥
+  pub arrived : (b c : ℕ) → live b ≡ true → moving b ≡ false → live c ≡ true → moving c ≡ false →
+      SameKey (event b) (event c) → b ≡ c
 
 -- ---- what was done
 
@@ -120,30 +123,38 @@ Latest event [] = Unit {0}
 Latest event (b ∷ bs) = ((c : ℕ) → In c bs → earlier (event c) (event b) ≡ true) × Latest event bs
 
 -- from q₀ the events bs, latest first, lead to q, each applied to its snapshot
-abbrev pub Chain : (Event → Process → Outcome) → (ℕ → Event) → (ℕ → Process) → (ℕ → Outcome) → Process → List ℕ → Process → Type 0
+abbrev pub Chain : (Event → Process → Outcome) → (ℕ → Event) → (ℕ → Process) → (ℕ → Outcome) → Process → List ℕ →
+    Process → Type 0
 Chain apply event snapshot outcome q₀ [] q = q ≡ q₀
 Chain apply event snapshot outcome q₀ (b ∷ bs) q =
-    (outcome b ≡ apply (event b) (snapshot b)) × (q ≡ moved (outcome b) (snapshot b)) × Chain apply event snapshot outcome q₀ bs (snapshot b)
+    (outcome b ≡ apply (event b) (snapshot b)) × (q ≡ process_after (outcome b) (snapshot b)) ×
+    Chain apply event snapshot outcome q₀ bs (snapshot b)
 
-pub record Chained (apply : Event → Process → Outcome) (cap : ℕ) (waiting did : ℕ → Bool) (event : ℕ → Event) (snapshot : ℕ → Process) (outcome : ℕ → Outcome) (now base : ℕ → Process) : Type 0 where
+pub record Chained (apply : Event → Process → Outcome) (cap : ℕ) (waiting did : ℕ → Bool) (event : ℕ → Event)
+    (snapshot : ℕ → Process) (outcome : ℕ → Outcome) (now base : ℕ → Process) : Type 0 where
   pub past : ℕ → List ℕ
   pub only : (p b : ℕ) → In b (past p) → (did b ≡ true) × ((event b).process ≡ p)
   pub lists : (b : ℕ) → did b ≡ true → In b (past (event b).process)
   pub latest : (p : ℕ) → Latest event (past p)
   pub chain : (p : ℕ) → Chain apply event snapshot outcome (base p) (past p) (now p)
   pub capped : (p : ℕ) → (now p).count ≤ cap
-  pub ahead : (d b : ℕ) → did d ≡ true → waiting b ≡ true → (event d).process ≡ (event b).process → earlier (event d) (event b) ≡ true
+  pub ahead : (d b : ℕ) → did d ≡ true → waiting b ≡ true → (event d).process ≡ (event b).process →
+      earlier (event d) (event b) ≡ true
 
 -- ---- what was sent
 
 -- where a message that is not cancelled comes from; `owed`: those of an event that is being undone
-pub data Origin (did : ℕ → Bool) (event : ℕ → Event) (sent : ℕ → List ℕ) (base : ℕ → Process) (posted : ℕ) (owed : List ℕ) (b : ℕ) : Type 0 where
+pub data Origin (did : ℕ → Bool) (event : ℕ → Event) (sent : ℕ → List ℕ) (base : ℕ → Process) (posted : ℕ)
+    (owed : List ℕ) (b : ℕ) : Type 0 where
   outer : (event b).sender ≡ outside → (event b).number < posted → Origin did event sent base posted owed b
-  settled : ((event b).sender ≡ outside → ⊥) → (event b).number < (base (event b).sender).count → Origin did event sent base posted owed b
-  sent_by : (d : ℕ) → did d ≡ true → (event d).process ≡ (event b).sender → In b (sent d) → Origin did event sent base posted owed b
+  settled : ((event b).sender ≡ outside → ⊥) → (event b).number < (base (event b).sender).count →
+      Origin did event sent base posted owed b
+  sent_by : (d : ℕ) → did d ≡ true → (event d).process ≡ (event b).sender → In b (sent d) →
+      Origin did event sent base posted owed b
   owing : In b owed → Origin did event sent base posted owed b
 
-pub record Sending (live gone did : ℕ → Bool) (event : ℕ → Event) (outcome : ℕ → Outcome) (sent : ℕ → List ℕ) (base : ℕ → Process) (posted : ℕ) (owed : List ℕ) : Type 0 where
+pub record Sending (live gone did : ℕ → Bool) (event : ℕ → Event) (outcome : ℕ → Outcome) (sent : ℕ → List ℕ)
+    (base : ℕ → Process) (posted : ℕ) (owed : List ℕ) : Type 0 where
   pub events : (d : ℕ) → did d ≡ true → map event (sent d) ≡ listed (outcome d).sends
   pub lasting : (d b : ℕ) → did d ≡ true → In b (sent d) → (live b ≡ true) × (gone b ≡ false)
   pub once : (d : ℕ) → did d ≡ true → Apart (sent d)
@@ -169,13 +180,16 @@ pub record Bound (workers floor : ℕ) (floors : ℕ → ℕ) (reports : ℕ →
   pub untold : (v : ℕ) → v < workers → reports v ≡ None → x ≤ floors v
 
 -- a worker that has reported may make a message of the time t active
-pub record Covered (workers floor : ℕ) (floors : ℕ → ℕ) (reports : ℕ → Option ℕ) (rounding : Bool) (gvt w t : ℕ) : Type 0 where
+pub record Covered (workers floor : ℕ) (floors : ℕ → ℕ) (reports : ℕ → Option ℕ) (rounding : Bool)
+    (gvt w t : ℕ) : Type 0 where
   pub low : gvt ≤ t
   pub bound : rounding ≡ true → (reports w ≡ None → ⊥) → (x : ℕ) → Bound workers floor floors reports x → x ≤ t
 
-pub record Timed (home : ℕ → ℕ) (workers : ℕ) (moving waiting gone : ℕ → Bool) (event : ℕ → Event) (floor : ℕ) (floors : ℕ → ℕ) (reports : ℕ → Option ℕ) (rounding : Bool) (gvt : ℕ) : Type 0 where
+pub record Timed (home : ℕ → ℕ) (workers : ℕ) (moving waiting gone : ℕ → Bool) (event : ℕ → Event) (floor : ℕ)
+    (floors : ℕ → ℕ) (reports : ℕ → Option ℕ) (rounding : Bool) (gvt : ℕ) : Type 0 where
   pub lowest : rounding ≡ true → Bound workers floor floors reports gvt
-  pub covers : (b : ℕ) → Active moving waiting gone b → Covered workers floor floors reports rounding gvt (home (event b).process) (event b).time
+  pub covers : (b : ℕ) → Active moving waiting gone b →
+      Covered workers floor floors reports rounding gvt (home (event b).process) (event b).time
 
 -- ---- the whole
 
@@ -207,7 +221,8 @@ pub record Placed (live : ℕ → Bool) (place : ℕ → Place) : Type 0 where
 abbrev pub applying : World → Event → Process → Outcome
 applying W e q = applied W.model W.plan.limits e q
 
--- `base`: each process after its collected events; `held`: what a worker has in hand; `owed`: what an undoing has yet to cancel
+-- `base`: each process after its collected events; `held`: what a worker has in hand; `owed`: what an undoing has yet
+-- to cancel
 pub record Kept (W : World) (base : ℕ → Process) (held : ℕ → List ℕ) (owed : List ℕ) (s : Machine) : Type 0 where
   pub sized : Sized s
   pub ended : Ended W.plan.limits.end s.gvt s.floor
@@ -215,9 +230,11 @@ pub record Kept (W : World) (base : ℕ → Process) (held : ℕ → List ℕ) (
   pub placed : Placed (lives s) (place_at s.places)
   pub boxed : Boxed (home W.plan) (lives s) (transits s) (flags s) (events s) (boxes held s)
   pub keyed : Keyed (lives s) (transits s) (flags s) (events s) (boxes held s)
-  pub chained : Chained (applying W) W.plan.limits.most (pendings s) (dones s) (events s) (snapshots s) (outcomes s) (process s) base
+  pub chained : Chained (applying W) W.plan.limits.most (pendings s) (dones s) (events s) (snapshots s) (outcomes s)
+      (process s) base
   pub sending : Sending (lives s) (flags s) (dones s) (events s) (outcomes s) (sents s) base s.posted owed
-  pub timed : Timed (home W.plan) W.plan.workers (transits s) (pendings s) (flags s) (events s) s.floor (floors s) (reports s) s.rounding s.gvt
+  pub timed : Timed (home W.plan) W.plan.workers (transits s) (pendings s) (flags s) (events s) s.floor (floors s)
+      (reports s) s.rounding s.gvt
 
 -- ---- what the sequential run has waiting
 
@@ -227,7 +244,9 @@ Ready base e = (e.sender ≡ outside) ⊎ ((e.sender ≡ outside → ⊥) × (e.
 
 -- the same messages that are ready and not cancelled are in both machines, GVT does not fall, and nothing was posted
 pub record Steady (base : ℕ → Process) (s s' : Machine) : Type 0 where
-  pub stays : (b : ℕ) → lives s b ≡ true → flags s b ≡ false → Ready base (events s b) → (lives s' b ≡ true) × (flags s' b ≡ false) × (events s' b ≡ events s b)
-  pub comes : (b : ℕ) → lives s' b ≡ true → flags s' b ≡ false → Ready base (events s' b) → (lives s b ≡ true) × (flags s b ≡ false) × (events s' b ≡ events s b)
+  pub stays : (b : ℕ) → lives s b ≡ true → flags s b ≡ false → Ready base (events s b) →
+      (lives s' b ≡ true) × (flags s' b ≡ false) × (events s' b ≡ events s b)
+  pub comes : (b : ℕ) → lives s' b ≡ true → flags s' b ≡ false → Ready base (events s' b) →
+      (lives s b ≡ true) × (flags s b ≡ false) × (events s' b ≡ events s b)
   pub gvt : s.gvt ≤ s'.gvt
   pub posted : s'.posted ≡ s.posted

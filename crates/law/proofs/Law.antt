@@ -2,8 +2,8 @@
 use Rattle.std.proofs.Common.{◌≡◌, ℕ, zero, suc, ◌+◌, ◌<◌, ◌≤◌, List, [], ◌∷◌, ◌++◌, length, get_or, refl, arith}
 use Rattle.std.proofs.ByRecursion.{All-get_or}
 use Rattle.sequential.proofs.Sends.{Numbered}
-use Rattle.sequential.specs.declared.base.Event.{Event}
-use Rattle.sequential.specs.declared.base.Line.{Line}
+use Rattle.sequential.specs.declared.event.Event.{Event}
+use Rattle.sequential.specs.declared.event.Line.{Line}
 use Rattle.machine.specs.Calls.{World, Transcript, Run}
 use Rattle.machine.specs.Machine.{Machine, at}
 use Rattle.law.specs.Law.{posts, collected_lines, Holds, Unsettled, Proper, Lawful, start}
@@ -13,7 +13,8 @@ use Rattle.law.proofs.Remain.{History-lines, remains}
 use Rattle.law.proofs.Runs.{from_start, advances, Run-append}
 use Rattle.law.proofs.Start.{none_lent, none_posted}
 
-Numbered-at : (n : ℕ) (es : List Event) → Numbered n es → (k : ℕ) (d : Event) → k < length es → (get_or es k d).number ≡ n + k
+Numbered-at : (n : ℕ) (es : List Event) → Numbered n es → (k : ℕ) (d : Event) → k < length es →
+    (get_or es k d).number ≡ n + k
 Numbered-at n [] h k d l = absurd (omega arith)
 Numbered-at n (e ∷ es) h zero d l = let i = h.0 in omega arith
 Numbered-at n (e ∷ es) h (suc k) d l = let r = Numbered-at (n + 1) es h.1 k d (omega arith) in omega arith
@@ -29,7 +30,9 @@ module _ (W : World) (P : Proper W) where
     committed = λ k d l. All-get_or (λ (x : Line). x.event.time < s.gvt) (collected_lines r) k d l A.history.early;
     sequential = (_, History-lines W P A.history);
     safe = λ b h. (A.history.kept.timed.covers b (active s b h)).low;
-    numbered = λ k d l. let e = Numbered-at (start W).posted (posts r) A.numbered k d l in let z = none_posted W P in omega arith;
+    numbered = λ k d l. let e = Numbered-at (start W).posted (posts r) A.numbered k d l in
+        let z = none_posted W P in
+        omega arith;
     buffers = let e = A.buffers in let z = none_lent W P in omega arith;
   }
 
@@ -38,4 +41,5 @@ module _ (W : World) (P : Proper W) where
   gvt_never_falls R R₁ = (advances W P R₁ (from_start W P R).history).gvt
 
 pub lawful : Lawful
-lawful W P = (λ r r₁ s s₁ R R₁. (law W P r s R, law W P (r ++ r₁) s₁ (Run-append R R₁), gvt_never_falls W P R R₁), remains W P)
+lawful W P =
+    (λ r r₁ s s₁ R R₁. (law W P r s R, law W P (r ++ r₁) s₁ (Run-append R R₁), gvt_never_falls W P R R₁), remains W P)

@@ -1,13 +1,17 @@
 -- Lists of buffers: what stands in them, what stands in them once, and what `set` leaves as it was.
-use Rattle.std.proofs.Common.{◌≡◌, ℕ, zero, suc, ◌⊎◌, List, [], ◌∷◌, ◌++◌, map, get_or, set, sym, refl, inl, inr}
+use Rattle.std.proofs.Common.{◌≡◌, ℕ, ◌⊎◌, List, [], ◌∷◌, ◌++◌, map, get_or, set, sym, refl, ap, ◌∙◌, inl, inr}
+use Rattle.std.proofs.Math.ListN.{get_or-map}
+use Rattle.std.proofs.Math.Seq.{map-set_same}
 use Rattle.std.specs.List.{AllByRecursion}
-use Rattle.sequential.specs.declared.base.Event.{Event}
+use Rattle.sequential.specs.declared.event.Event.{Event}
 
+-- b stands in the list. std's `Contains` says it by an index; this is a sum that computes, which proofs along a list of
+-- buffers match on, so that `Contains` would be no plainer here
 abbrev pub In : ℕ → List ℕ → Type 0
 In b [] = ⊥
 In b (x ∷ xs) = (b ≡ x) ⊎ In b xs
 
--- no element stands twice
+-- no element stands twice; std's `IsDistinct` says the same by a test (`Apart-distinct` leads to it)
 abbrev pub Apart : List ℕ → Type 0
 Apart [] = Unit {0}
 Apart (x ∷ xs) = (In x xs → ⊥) × Apart xs
@@ -37,12 +41,10 @@ Apart-push c (x ∷ xs) a n = (fresh, Apart-push c xs a.1 (λ h. n (inr h)))
 -- ---- `set` and `get_or`
 
 -- what a part of the new element has in common with the old one is as it was everywhere
-pub get_or-set_keeps : {A B : Type 0} (f : A → B) (l : List A) (i : ℕ) (a d : A) → f a ≡ f (get_or l i d) → (j : ℕ) → f (get_or (set l i a) j d) ≡ f (get_or l j d)
-get_or-set_keeps f [] i a d h j = refl
-get_or-set_keeps f (x ∷ xs) zero a d h zero = h
-get_or-set_keeps f (x ∷ xs) zero a d h (suc j) = refl
-get_or-set_keeps f (x ∷ xs) (suc i) a d h zero = refl
-get_or-set_keeps f (x ∷ xs) (suc i) a d h (suc j) = get_or-set_keeps f xs i a d h j
+pub get_or-set_keeps : {A B : Type 0} (f : A → B) (l : List A) (i : ℕ) (a d : A) → f a ≡ f (get_or l i d) → (j : ℕ) →
+    f (get_or (set l i a) j d) ≡ f (get_or l j d)
+get_or-set_keeps f l i a d h j =
+    sym (get_or-map f (set l i a) j d) ∙ ap (λ xs. get_or xs j (f d)) (map-set_same f l i a d h) ∙ get_or-map f l j d
 
 -- ---- `map`
 
@@ -50,7 +52,8 @@ pub map_same : {A : Type 0} (f g : ℕ → A) (xs : List ℕ) → ((c : ℕ) →
 map_same f g [] h = refl
 map_same f g (x ∷ xs) h = rw (h x (inl refl), map_same f g xs (λ c i. h c (inr i)))
 
-pub all_sent : (P : Event → Type 0) (event : ℕ → Event) (bs : List ℕ) → AllByRecursion P (map event bs) → (b : ℕ) → In b bs → P (event b)
+pub all_sent : (P : Event → Type 0) (event : ℕ → Event) (bs : List ℕ) → AllByRecursion P (map event bs) → (b : ℕ) →
+    In b bs → P (event b)
 all_sent P event [] a b i = absurd i
 all_sent P event (c ∷ cs) a b (inl e) = rw e a.0
 all_sent P event (c ∷ cs) a b (inr i) = all_sent P event cs a.1 b i

@@ -1,19 +1,20 @@
--- What code that carries a run may use of any machine of it: its sizes, which messages are there and where their buffers are,
--- what stands in the inboxes, and how far the counts have gone.
-use Rattle.std.proofs.Common.{◌≡◌, ℕ, ◌<◌, ◌≤◌, Bool, true, false, ◌⊎◌, List, [], ◌∷◌, ◌++◌, length, refl, inl, inr, arith}
+-- What code that carries a run may use of any machine of it: its sizes, which messages are there and where their
+-- buffers are, what stands in the inboxes, and how far the counts have gone.
+use Rattle.std.proofs.Common.{◌≡◌, ℕ, ◌<◌, ◌≤◌, Bool, true, false, ◌⊎◌, List, [], ◌∷◌, ◌++◌, length, refl, inl, inr}
+use Rattle.std.proofs.Common.{arith}
 use Rattle.std.proofs.lemmas.Bool.{both_ways}
 use Rattle.model.specs.Meaning.{listed}
 use Rattle.pool.specs.Lanes.{place_at, is_out}
-use Rattle.pool.specs.declared.base.Place.{Place}
-use Rattle.pool.specs.declared.base.Place.TheVariants.{Out, Lane}
-use Rattle.sequential.specs.declared.base.Line.{Line}
+use Rattle.pool.specs.declared.place.Place.{Place}
+use Rattle.pool.specs.declared.place.Place.TheVariants.{Out, Lane}
+use Rattle.sequential.specs.declared.event.Line.{Line}
 use Rattle.machine.specs.Calls.{World, Transcript, Does, Run}
 use Rattle.machine.specs.Calls.Run.{rests, goes}
 use Rattle.machine.specs.Machine.{Machine, at, worker, process, home, is_transit, is_done}
-use Rattle.machine.specs.declared.base.Answer.{Answer}
-use Rattle.machine.specs.declared.base.Call.{Call}
-use Rattle.machine.specs.declared.base.Phase.{Phase}
-use Rattle.machine.specs.declared.base.Phase.TheVariants.{Free, Transit, Pending, Done}
+use Rattle.machine.specs.declared.call.Answer.{Answer}
+use Rattle.machine.specs.declared.call.Call.{Call}
+use Rattle.machine.specs.declared.message.Phase.{Phase}
+use Rattle.machine.specs.declared.message.Phase.TheVariants.{Free, Transit, Pending, Done}
 use Rattle.law.specs.Law.{posts, Proper, start}
 use Rattle.law.proofs.Absorb.{none}
 use Rattle.law.proofs.Invariant.{is_live, Kept, Sized, Fitting}
@@ -26,7 +27,8 @@ use Rattle.law.proofs.Start.{none_posted}
 use Rattle.law.proofs.World.{homes}
 
 -- a run goes on by one call
-pub Run-push : {W : World} {s s₁ s₂ : Machine} {r : Transcript} {c : Call} {a : Answer (List Line)} → Run W s r s₁ → Does W s₁ c a s₂ → Run W s (r ++ (c, a) ∷ []) s₂
+pub Run-push : {W : World} {s s₁ s₂ : Machine} {r : Transcript} {c : Call} {a : Answer (List Line)} → Run W s r s₁ →
+    Does W s₁ c a s₂ → Run W s (r ++ (c, a) ∷ []) s₂
 Run-push R d = Run-append R (goes d rests)
 
 not_live : (p : Phase) → is_live p ≡ false → p ≡ Free
@@ -54,11 +56,13 @@ module _ (W : World) (P : Proper W) {r : Transcript} {s : Machine} (R : Run W (s
   live_home b l = homes W P (at s b).event.process (live_fits b l).process
 
   -- the messages that a done event has sent are there, and not cancelled
-  pub sent_lives : (d b : ℕ) → is_done (at s d).phase ≡ true → In b (listed (at s d).sent) → (is_live (at s b).phase ≡ true) × ((at s b).cancelled ≡ false)
+  pub sent_lives : (d b : ℕ) → is_done (at s d).phase ≡ true → In b (listed (at s d).sent) →
+      (is_live (at s b).phase ≡ true) × ((at s b).cancelled ≡ false)
   sent_lives d b h i = kept.sending.lasting d b h i
 
   -- no two done events have sent the same message, and none of them one twice
-  pub sent_parted : (d e b : ℕ) → is_done (at s d).phase ≡ true → is_done (at s e).phase ≡ true → In b (listed (at s d).sent) → In b (listed (at s e).sent) → d ≡ e
+  pub sent_parted : (d e b : ℕ) → is_done (at s d).phase ≡ true → is_done (at s e).phase ≡ true →
+      In b (listed (at s d).sent) → In b (listed (at s e).sent) → d ≡ e
   sent_parted d e b = kept.sending.parted d e b
 
   pub sent_once : (d : ℕ) → is_done (at s d).phase ≡ true → Apart (listed (at s d).sent)
@@ -110,8 +114,10 @@ module _ (W : World) (P : Proper W) {r : Transcript} {s : Machine} (R : Run W (s
   pub inbox_room : (b l w : ℕ) → place_at s.places b ≡ Lane l → length (worker s w).inbox < 256
   inbox_room b l w h = let d = Drawn-dead W _ none kept b l h in dead_room kept b w d.0 d.1
 
-  pub inbox_room_standing : (b w : ℕ) → is_live (at s b).phase ≡ true → is_transit (at s b).phase ≡ false → (at s b).cancelled ≡ false → length (worker s w).inbox < 256
-  inbox_room_standing b w l t g = Kept-room kept b w (let h = kept.sized.messages in let j = live_within s b l in omega arith)
+  pub inbox_room_standing : (b w : ℕ) → is_live (at s b).phase ≡ true → is_transit (at s b).phase ≡ false →
+      (at s b).cancelled ≡ false → length (worker s w).inbox < 256
+  inbox_room_standing b w l t g =
+      Kept-room kept b w (let h = kept.sized.messages in let j = live_within s b l in omega arith)
       (λ i. elim (kept.boxed.due w b i) [ inl m ↦ both_ways _ t m | inr e ↦ both_ways _ g e ])
 
   -- ---- counts and times

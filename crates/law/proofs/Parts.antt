@@ -4,7 +4,7 @@ use mathlib.Core.Path.{fun_ext}
 use Rattle.std.proofs.lemmas.List.{get_or_past, get_or-set_same, get_or-set_other}
 use Rattle.std.proofs.lemmas.Bool.{cases_lt, both_ways}
 use Rattle.machine.specs.Machine.{Machine, blank, at}
-use Rattle.machine.specs.declared.base.Message.{Message}
+use Rattle.machine.specs.declared.message.Message.{Message}
 use Rattle.law.proofs.Invariant.{lives, parts}
 use Rattle.law.proofs.Members.{get_or-set_keeps}
 
@@ -15,15 +15,18 @@ live_within s b h = elim (cases_lt b (length s.messages)) [
 ]
 
 -- the new message's parts
-pub part_here : {B : Type 0} (f : Message → B) (s s' : Machine) (b : ℕ) (m : Message) → s'.messages ≡ set s.messages b m → b < length s.messages → parts f s' b ≡ f m
+pub part_here : {B : Type 0} (f : Message → B) (s s' : Machine) (b : ℕ) (m : Message) →
+    s'.messages ≡ set s.messages b m → b < length s.messages → parts f s' b ≡ f m
 part_here f s s' b m e l = rw e (ap f (get_or-set_same s.messages b m blank l))
 
 -- the parts of the others
-pub part_others : {B : Type 0} (f : Message → B) (s s' : Machine) (b : ℕ) (m : Message) → s'.messages ≡ set s.messages b m → (c : ℕ) → (c ≡ b → ⊥) → parts f s' c ≡ parts f s c
+pub part_others : {B : Type 0} (f : Message → B) (s s' : Machine) (b : ℕ) (m : Message) →
+    s'.messages ≡ set s.messages b m → (c : ℕ) → (c ≡ b → ⊥) → parts f s' c ≡ parts f s c
 part_others f s s' b m e c n = rw e (ap f (get_or-set_other s.messages b c m blank n))
 
 -- a part of a message that is the same in its new value is the same in all messages
-pub same_part : {B : Type 0} (f : Message → B) (s s' : Machine) (b : ℕ) (m : Message) → s'.messages ≡ set s.messages b m → f m ≡ f (at s b) → parts f s' ≡ parts f s
+pub same_part : {B : Type 0} (f : Message → B) (s s' : Machine) (b : ℕ) (m : Message) →
+    s'.messages ≡ set s.messages b m → f m ≡ f (at s b) → parts f s' ≡ parts f s
 same_part f s s' b m e h = fun_ext (λ c. rw e (get_or-set_keeps f s.messages b m blank h c))
 
 pub agree : {A : Type 0} {f g : ℕ → A} → f ≡ g → (b : ℕ) → f b ≡ g b

@@ -1,9 +1,9 @@
--- What a rollback comes to: the invariant is kept, every message stays where it is, and those that are cancelled are later than what set
--- it off, and none of them is ready.
+-- What a rollback comes to: the invariant is kept, every message stays where it is, and those that are cancelled are
+-- later than what set it off, and none of them is ready.
 use Rattle.std.proofs.Common.{◌≡◌, ℕ, ◌≤◌, Bool, true, false, List, [], sym, refl, ◌∙◌, inl, inr, arith}
 use Rattle.std.proofs.lemmas.Bool.{cases_Bool, both_ways}
-use Rattle.sequential.specs.declared.base.Event.{Event}
-use Rattle.sequential.specs.declared.base.Process.{Process}
+use Rattle.sequential.specs.declared.event.Event.{Event}
+use Rattle.sequential.specs.declared.event.Process.{Process}
 use Rattle.machine.specs.Calls.{World}
 use Rattle.machine.specs.Machine.{Machine, is_done, counted}
 use Rattle.law.specs.Law.{Proper}
@@ -33,7 +33,17 @@ pub record Frame (t : ℕ) (s s' : Machine) : Type 0 where
   pub gvt : s'.gvt ≡ s.gvt
 
 pub Frame-none : {t : ℕ} {s : Machine} → Frame t s s
-Frame-none = record { live = refl; moving = refl; event = refl; gone = λ c g. g; early = λ c l. refl; tally = omega arith; places = refl; posted = refl; gvt = refl }
+Frame-none = record {
+  live = refl;
+  moving = refl;
+  event = refl;
+  gone = λ c g. g;
+  early = λ c l. refl;
+  tally = omega arith;
+  places = refl;
+  posted = refl;
+  gvt = refl;
+}
 
 pub Frame-more : {t : ℕ} {s s' s'' : Machine} → Frame t s s' → Frame t s' s'' → Frame t s s''
 Frame-more {t} F G = record {
@@ -61,8 +71,20 @@ module _ (W : World) (P : Proper W) (base : ℕ → Process) (held : ℕ → Lis
     gvt = let i = R.frame.gvt in omega arith;
     posted = R.frame.posted;
     stays = λ b l g r. (agree R.frame.live b ∙ l, R.ready b g r, agree R.frame.event b);
-    comes = λ b l g r. (sym (agree R.frame.live b) ∙ l, elim (cases_Bool (flags s b)) [ inr f ↦ f | inl t ↦ absurd (both_ways _ g (R.frame.gone b t)) ], agree R.frame.event b);
+    comes =
+        λ b l g r. (
+          sym (agree R.frame.live b) ∙ l,
+          elim (cases_Bool (flags s b)) [ inr f ↦ f | inl t ↦ absurd (both_ways _ g (R.frame.gone b t)) ],
+          agree R.frame.event b,
+        );
   }
 
-  pub Rolling-more : {w t : ℕ} {s s' s'' : Machine} → Frame t s s' → ((c : ℕ) → flags s c ≡ false → Ready base (events s c) → flags s' c ≡ false) → Rolling w t s' s'' → Rolling w t s s''
-  Rolling-more F g R = record { kept = R.kept; covers = R.covers; frame = Frame-more F R.frame; ready = λ c f r. R.ready c (g c f r) (rw F.event r) }
+  pub Rolling-more : {w t : ℕ} {s s' s'' : Machine} → Frame t s s' →
+      ((c : ℕ) → flags s c ≡ false → Ready base (events s c) → flags s' c ≡ false) → Rolling w t s' s'' →
+      Rolling w t s s''
+  Rolling-more F g R = record {
+    kept = R.kept;
+    covers = R.covers;
+    frame = Frame-more F R.frame;
+    ready = λ c f r. R.ready c (g c f r) (rw F.event r);
+  }

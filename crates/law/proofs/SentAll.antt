@@ -1,20 +1,21 @@
--- Sending the messages of one event keeps the invariant: each goes into an empty buffer, is numbered from its sender's count on, so
--- that no message that is not cancelled has its key, and is later than the event, so not earlier than GVT.
-use Rattle.std.proofs.Common.{◌≡◌, ℕ, ◌+◌, ◌<◌, ◌≤◌, true, false, List, [], ◌∷◌, ◌++◌, map, length, set, sym, refl, ap, ◌∙◌, subst, inl, inr, append_assoc, arith}
+-- Sending the messages of one event keeps the invariant: each goes into an empty buffer, is numbered from its sender's
+-- count on, so that no message that is not cancelled has its key, and is later than the event, so not earlier than GVT.
+use Rattle.std.proofs.Common.{◌≡◌, ℕ, ◌+◌, ◌<◌, ◌≤◌, true, false, List, [], ◌∷◌, ◌++◌, map, length, set, sym, refl, ap}
+use Rattle.std.proofs.Common.{◌∙◌, subst, inl, inr, append_assoc, arith}
 use Rattle.std.proofs.lemmas.List.{get_or-set_same, get_or-set_other, append-nil}
 use Rattle.std.proofs.lemmas.Bool.{cases_eq, both_ways}
 use Rattle.std.specs.List.{AllByRecursion}
-use Rattle.pool.specs.declared.base.Place.{Place}
-use Rattle.pool.specs.declared.base.Place.TheVariants.{Out}
+use Rattle.pool.specs.declared.place.Place.{Place}
+use Rattle.pool.specs.declared.place.Place.TheVariants.{Out}
 use Rattle.sequential.proofs.Keys.{SameKey}
 use Rattle.sequential.proofs.Sends.{Fits, Numbered}
 use Rattle.sequential.specs.Events.{outside}
-use Rattle.sequential.specs.declared.base.Event.{Event}
-use Rattle.sequential.specs.declared.base.Process.{Process}
-use Rattle.machine.specs.Calls.{World, Drawn}
-use Rattle.machine.specs.Calls.Drawn.{none as no_lanes, one as from_lane}
+use Rattle.sequential.specs.declared.event.Event.{Event}
+use Rattle.sequential.specs.declared.event.Process.{Process}
+use Rattle.machine.specs.Calls.{World, DrawnAll}
+use Rattle.machine.specs.Calls.DrawnAll.{none as no_lanes, one as from_lane}
 use Rattle.machine.specs.Machine.{Machine, blank, at, process, home, sent, enter, lower, sent_all}
-use Rattle.machine.specs.declared.base.Message.{Message}
+use Rattle.machine.specs.declared.message.Message.{Message}
 use Rattle.law.specs.Law.{Proper}
 use Rattle.law.proofs.Cancel.{Lowering, Covered-cancel, Timed-add}
 use Rattle.law.proofs.Cancelled.{lower-floors}
@@ -26,7 +27,8 @@ use Rattle.law.proofs.Numbers.{number_below, base_below}
 use Rattle.law.proofs.Picks.{done_lives}
 use Rattle.law.proofs.Rolling.{Covers}
 use Rattle.law.proofs.Room.{dead_room}
-use Rattle.law.proofs.Sent.{Enters, Draws, draws-sent, draws-lower, sent-floors, sent-reports, lower-reports, draw-Entering, Kept-draw, Drawn-dead}
+use Rattle.law.proofs.Sent.{Enters, Draws, draws-sent, draws-lower, sent-floors, sent-reports, lower-reports}
+use Rattle.law.proofs.Sent.{draw-Entering, Kept-draw, Drawn-dead}
 use Rattle.law.proofs.Steady.{Steady-same, Steady-more}
 use Rattle.law.proofs.World.{homes}
 
@@ -58,14 +60,18 @@ module _ (W : World) (P : Proper W) (base : ℕ → Process) (held : ℕ → Lis
     steady : Steady base s s'
 
   -- one message of an event of the worker w
-  module _ (w t p n b : ℕ) (e : Event) (s : Machine) (owed : List ℕ) (K : Kept W base held owed s) (inside : w < W.plan.workers) (C : Covers W w t s) (within : b < 256) (dead : lives s b ≡ false)
-      (fits : Fitting W.model.size W.plan.limits.end e) (later : t < e.time) (sender : e.sender ≡ p) (inner : p ≡ outside → ⊥) (number : e.number ≡ n)
+  module _ (w t p n b : ℕ) (e : Event) (s : Machine) (owed : List ℕ) (K : Kept W base held owed s)
+      (inside : w < W.plan.workers) (C : Covers W w t s) (within : b < 256) (dead : lives s b ≡ false)
+      (fits : Fitting W.model.size W.plan.limits.end e) (later : t < e.time) (sender : e.sender ≡ p)
+      (inner : p ≡ outside → ⊥) (number : e.number ≡ n)
       (below : (process s p).count ≤ n) (owed_below : (c : ℕ) → In c owed → (events s c).number < n) where
     s₁ : Machine
     s₁ = lower w e.time (sent W.plan b e s)
 
     drawn₀ : Draws W.plan b e s (sent W.plan b e s)
-    drawn₀ = draws-sent W.plan b e s (let i = W.plan.staffed.1 in let j = homes W P e.process fits.process in let k = K.sized.workers in omega arith) (dead_room K b (home W.plan e.process) within dead)
+    drawn₀ =
+        draws-sent W.plan b e s (let i = W.plan.staffed.1 in let j = homes W P e.process fits.process in
+        let k = K.sized.workers in omega arith) (dead_room K b (home W.plan e.process) within dead)
 
     drawn : Draws W.plan b e s s₁
     unfolding s₁
@@ -76,7 +82,8 @@ module _ (W : World) (P : Proper W) (base : ℕ → Process) (held : ℕ → Lis
 
     event_here : events s₁ b ≡ e
     unfolding s₁ sent enter lower
-    event_here = ap (λ (m : Message). m.event) (get_or-set_same s.messages b _ blank (let j = K.sized.messages in omega arith))
+    event_here =
+        ap (λ (m : Message). m.event) (get_or-set_same s.messages b _ blank (let j = K.sized.messages in omega arith))
 
     reports_same : reports s₁ ≡ reports s
     unfolding s₁
@@ -84,11 +91,15 @@ module _ (W : World) (P : Proper W) (base : ℕ → Process) (held : ℕ → Lis
 
     lowers : Lowering (floors s) (floors s₁) w e.time
     unfolding s₁
-    lowers = rw (sent-floors W.plan b e s) at (lower-floors (sent W.plan b e s) w e.time (let i = drawn₀.workers in let j = K.sized.workers in let k = W.plan.staffed.1 in omega arith))
+    lowers =
+        rw (sent-floors W.plan b e s) at (lower-floors (sent W.plan b e s) w e.time
+        (let i = drawn₀.workers in let j = K.sized.workers in let k = W.plan.staffed.1 in omega arith))
 
     fresh : (c : ℕ) → lives s c ≡ true → flags s c ≡ false → SameKey (events s c) e → ⊥
     fresh c l g k = elim (number_below W base held K c l g (λ q. inner (sym sender ∙ (sym k.sender ∙ q)))) [
-      | inl h ↦ (let i : (events s c).number < (process s p).count = rw (k.sender, sender) at h in let j = k.number in omega arith)
+      | inl h ↦
+          (let i : (events s c).number < (process s p).count = rw (k.sender, sender) at h in let j = k.number in
+          omega arith)
       | inr i ↦ (let h = owed_below c i in let j = k.number in omega arith)
     ]
 
@@ -96,9 +107,11 @@ module _ (W : World) (P : Proper W) (base : ℕ → Process) (held : ℕ → Lis
     unfolding s₁ sent enter lower
     Kept-send = Kept-draw W base held drawn K within dead K.ended fits fresh
         (Sending-enter entering (done_lives s) (omega arith) (λ c i. in_left c owed _ i)
-        (λ c i. elim (in_push_cases c b owed i) [ inl j ↦ inl j | inr k ↦ inr (k, λ q. inner (sym sender ∙ (rw event_here at q))) ])
+        (λ c i. elim (in_push_cases c b owed i)
+        [ inl j ↦ inl j | inr k ↦ inr (k, λ q. inner (sym sender ∙ (rw event_here at q))) ])
         (λ o a. Apart-push b owed a (λ i. o b i refl)) (owing (in_push b owed)) K.sending)
-        (rw reports_same (Timed-add lowers b (ap (λ (x : Event). x.time) event_here) inside (omega arith) C entering.event_others (Active-enter entering) K.timed))
+        (rw reports_same (Timed-add lowers b (ap (λ (x : Event). x.time) event_here) inside
+        (omega arith) C entering.event_others (Active-enter entering) K.timed))
 
     Covers-send : Covers W w t s₁
     unfolding s₁ sent enter lower
@@ -108,7 +121,12 @@ module _ (W : World) (P : Proper W) (base : ℕ → Process) (held : ℕ → Lis
     unfolding s₁ sent enter lower
     Grown-send = record {
       old = λ c l. get_or-set_other s.messages b c _ blank (λ k. both_ways _ dead (rw k at l));
-      waits = λ c h. elim (cases_eq c b) [ inl k ↦ absurd (both_ways _ entering.waiting_off (rw k at h)) | inr q ↦ sym (entering.waiting_others c q) ∙ h ];
+      waits =
+          λ c h. elim (cases_eq c b) [
+            | inl k ↦ absurd (both_ways _ entering.waiting_off (rw k at h))
+            | inr q ↦
+                sym (entering.waiting_others c q) ∙ h
+          ];
       processes = refl;
     }
 
@@ -116,7 +134,8 @@ module _ (W : World) (P : Proper W) (base : ℕ → Process) (held : ℕ → Lis
     unready : Ready base (events s₁ b) → ⊥
     unready r = elim (subst (Ready base) event_here r) [
       | inl o ↦ inner (sym sender ∙ o)
-      | inr o ↦ (let u = base_below W base held K p in let v : e.number < (base p).count = rw sender at o.1 in omega arith)
+      | inr o ↦
+          (let u = base_below W base held K p in let v : e.number < (base p).count = rw sender at o.1 in omega arith)
     ]
 
     Steady-send : Steady base s s₁
@@ -124,8 +143,10 @@ module _ (W : World) (P : Proper W) (base : ℕ → Process) (held : ℕ → Lis
     Steady-send = record {
       gvt = omega arith;
       posted = refl;
-      stays = λ c l g r. let q : c ≡ b → ⊥ = λ k. both_ways _ dead (rw k at l) in (entering.live_others c q ∙ l, entering.gone_others c q ∙ g, entering.event_others c q);
-      comes = λ c l g r. let q : c ≡ b → ⊥ = λ k. unready (rw k at r) in (sym (entering.live_others c q) ∙ l, sym (entering.gone_others c q) ∙ g, entering.event_others c q);
+      stays = λ c l g r. let q : c ≡ b → ⊥ = λ k. both_ways _ dead (rw k at l) in
+          (entering.live_others c q ∙ l, entering.gone_others c q ∙ g, entering.event_others c q);
+      comes = λ c l g r. let q : c ≡ b → ⊥ = λ k. unready (rw k at r) in
+          (sym (entering.live_others c q) ∙ l, sym (entering.gone_others c q) ∙ g, entering.event_others c q);
     }
 
     sent_one : SentOne w t n b e owed s (lower w e.time (sent W.plan b e s))
@@ -138,7 +159,9 @@ module _ (W : World) (P : Proper W) (base : ℕ → Process) (held : ℕ → Lis
       is = event_here;
       places = refl;
       below = λ c i. elim (in_push_cases c b owed i) [
-        | inl j ↦ (let q = ap (λ (m : Message). m.event.number) (Grown-send.old c (K.sending.owed_lasting c j).0) in let h = owed_below c j in omega arith)
+        | inl j ↦
+            (let q = ap (λ (m : Message). m.event.number) (Grown-send.old c (K.sending.owed_lasting c j).0) in
+            let h = owed_below c j in omega arith)
         | inr k ↦ rw k (let q = ap (λ (x : Event). x.number) event_here in omega arith)
       ];
     }
@@ -151,25 +174,47 @@ module _ (W : World) (P : Proper W) (base : ℕ → Process) (held : ℕ → Lis
     pub are : map (events s') bs ≡ es
     pub steady : Steady base s s'
 
-  sent_more : {w t n b : ℕ} {e : Event} {owed bs : List ℕ} {es : List Event} {s s' s'' : Machine} → SentOne w t n b e owed s s' → SentAll w t (owed ++ b ∷ []) bs es s' s'' → SentAll w t owed (b ∷ bs) (e ∷ es) s s''
+  sent_more : {w t n b : ℕ} {e : Event} {owed bs : List ℕ} {es : List Event} {s s' s'' : Machine} →
+      SentOne w t n b e owed s s' → SentAll w t (owed ++ b ∷ []) bs es s' s'' → SentAll w t owed (b ∷ bs) (e ∷ es) s s''
   sent_more {w} {t} {n} {b} {e} {owed} {bs} {es} {s} {s'} {s''} O R = record {
     kept = rw append_assoc at R.kept;
     covers = R.covers;
     grown = Grown-more O.grown R.grown;
     steady = Steady-more O.steady R.steady;
-    are = rw (ap (λ (m : Message). m.event) (R.grown.old b (O.kept.sending.owed_lasting b (in_push b owed)).0) ∙ O.is, R.are) refl;
+    are =
+        rw (
+          ap (λ (m : Message). m.event) (R.grown.old b (O.kept.sending.owed_lasting b (in_push b owed)).0) ∙ O.is,
+          R.are,
+        ) refl;
   }
 
-  pub Kept-sent_all : (w t p : ℕ) (d : Event) → w < W.plan.workers → d.time ≡ t → d.process ≡ p → (p ≡ outside → ⊥) → p < W.model.size → {places : List Place} {ls bs : List ℕ} → Drawn places ls bs → (es : List Event) (s : Machine) (owed : List ℕ) (n : ℕ) →
-      s.places ≡ places → length ls ≡ length es → AllByRecursion (Fits W.model.size W.plan.limits.end d) es → Numbered n es → (process s p).count ≤ n → ((c : ℕ) → In c owed → (events s c).number < n) →
+  pub Kept-sent_all : (w t p : ℕ) (d : Event) → w < W.plan.workers → d.time ≡ t → d.process ≡ p → (p ≡ outside → ⊥) →
+      p < W.model.size → {places : List Place} {ls bs : List ℕ} → DrawnAll places ls bs →
+      (es : List Event) (s : Machine) (owed : List ℕ) (n : ℕ) →
+      s.places ≡ places → length ls ≡ length es → AllByRecursion (Fits W.model.size W.plan.limits.end d) es →
+      Numbered n es → (process s p).count ≤ n → ((c : ℕ) → In c owed → (events s c).number < n) →
       Covers W w t s → Kept W base held owed s → SentAll w t owed bs es s (sent_all W.plan w bs es s)
   unfolding sent_all
   Kept-sent_all w t p d inside at_t at_p inner small no_lanes [] s owed n is ls fits numbered below owed_below C K =
-      record { kept = rw append-nil K; covers = C; grown = Grown-none; are = refl; steady = Steady-same refl refl refl (omega arith) refl }
-  Kept-sent_all w t p d inside at_t at_p inner small no_lanes (e ∷ es) s owed n is ls fits numbered below owed_below C K = absurd (omega arith)
-  Kept-sent_all w t p d inside at_t at_p inner small (from_lane h D) [] s owed n is ls fits numbered below owed_below C K = absurd (omega arith)
-  Kept-sent_all w t p d inside at_t at_p inner small (from_lane {l = l} {b = b} {bs = bs} h D) (e ∷ es) s owed n is ls fits numbered below owed_below C K =
+      record {
+        kept = rw append-nil K;
+        covers = C;
+        grown = Grown-none;
+        are = refl;
+        steady = Steady-same refl refl refl (omega arith) refl;
+      }
+  Kept-sent_all w t p d inside at_t at_p inner small no_lanes
+      (e ∷ es) s owed n is ls fits numbered below owed_below C K = absurd (omega arith)
+  Kept-sent_all w t p d inside at_t at_p inner small (from_lane h D)
+      [] s owed n is ls fits numbered below owed_below C K = absurd (omega arith)
+  Kept-sent_all w t p d inside at_t at_p inner small (from_lane {l = l} {b = b} {bs = bs} h D)
+      (e ∷ es) s owed n is ls fits numbered below owed_below C K =
       let f = fits.0 in
       let e₀ = Drawn-dead W base held K b l (rw is h) in
-      let O = sent_one w t p n b e s owed K inside C e₀.0 e₀.1 (record { process = f.receiver; sender = inr (let q = f.sender in omega arith); time = f.within }) (let q = f.later in omega arith) (f.sender ∙ at_p) inner numbered.0 below owed_below in
-      sent_more O (Kept-sent_all w t p d inside at_t at_p inner small D es (lower w e.time (sent W.plan b e s)) (owed ++ b ∷ []) (n + 1) (O.places ∙ rw is refl) (omega arith) fits.1 numbered.1 (rw O.grown.processes (omega arith)) O.below O.covers O.kept)
+      let O =
+      sent_one w t p n b e s owed K inside C e₀.0 e₀.1
+      (record { process = f.receiver; sender = inr (let q = f.sender in omega arith); time = f.within })
+      (let q = f.later in omega arith) (f.sender ∙ at_p) inner numbered.0 below owed_below in
+      sent_more O (Kept-sent_all w t p d inside at_t at_p inner small D es (lower w e.time (sent W.plan b e s))
+      (owed ++ b ∷ []) (n + 1) (O.places ∙ rw is refl) (omega arith) fits.1 numbered.1
+      (rw O.grown.processes (omega arith)) O.below O.covers O.kept)

@@ -1,13 +1,14 @@
 -- The machine before any call keeps the invariant: it has no message, every inbox is empty, and no buffer is out.
-use Rattle.std.proofs.Common.{◌≡◌, ℕ, Bool, true, false, ◌⊎◌, [], get_or, replicate, None, refl, ap, inl, inr, arith}
+use Rattle.std.proofs.Common.{◌≡◌, ℕ, Bool, true, false, ◌⊎◌, [], replicate, None, refl, ap, inl, inr, arith}
 use Rattle.std.proofs.lemmas.List.{get_or-replicate, get_or_past, length-replicate}
 use Rattle.std.proofs.lemmas.Bool.{cases_lt, both_ways}
 use Rattle.pool.specs.Lanes.{lent}
 use Rattle.sequential.proofs.Budget.{fresh-count}
 use Rattle.sequential.specs.Run.{fresh}
 use Rattle.machine.specs.Calls.{World}
-use Rattle.machine.specs.Machine.{Machine, Worker, blank, idle, at, worker, process, started, started_with, is_transit, is_pending, is_done}
-use Rattle.machine.specs.declared.base.Message.{Message}
+use Rattle.machine.specs.Machine.{Machine, Worker, blank, idle, at, worker, process, started, started_with, is_transit}
+use Rattle.machine.specs.Machine.{is_pending, is_done}
+use Rattle.machine.specs.declared.message.Message.{Message}
 use Rattle.law.specs.Law.{Proper, start}
 use Rattle.law.proofs.Absorb.{none}
 use Rattle.law.proofs.History.{History}
@@ -15,23 +16,29 @@ use Rattle.law.proofs.Invariant.{is_live, Active, boxes, Kept}
 use Rattle.law.proofs.Steps.Steps.{rests as no_steps}
 use Rattle.law.proofs.World.{none_out_at}
 
-get_or-replicate_default : {A : Type 0} (n i : ℕ) (a : A) → get_or (replicate n a) i a ≡ a
-get_or-replicate_default n i a = elim (cases_lt i n) [ inl l ↦ get_or-replicate n i a a l | inr g ↦ get_or_past (replicate n a) i a (let e = length-replicate n a in omega arith) ]
-
 module _ (W : World) (P : Proper W) where
   abbrev first : Machine
   first = started W.model W.lanes W.plan
 
   empty : (b : ℕ) → at first b ≡ blank
   unfolding started started_with
-  empty b = get_or-replicate_default 256 b blank
+  empty b =
+      elim (cases_lt b 256) [
+        | inl l ↦ get_or-replicate 256 b blank blank l
+        | inr g ↦ get_or_past (replicate 256 blank) b blank g
+      ]
 
   at_rest : Worker
   at_rest = record { inbox = []; floor = W.plan.limits.end; report = None }
 
   worker_cases : (w : ℕ) → (worker first w ≡ at_rest) ⊎ (worker first w ≡ idle)
   unfolding started started_with at_rest
-  worker_cases w = elim (cases_lt w 8) [ inl l ↦ inl (get_or-replicate 8 w at_rest idle l) | inr g ↦ inr (get_or_past (replicate 8 at_rest) w idle g) ]
+  worker_cases w =
+      elim (cases_lt w 8) [
+        | inl l ↦ inl (get_or-replicate 8 w at_rest idle l)
+        | inr g ↦
+            inr (get_or_past (replicate 8 at_rest) w idle g)
+      ]
 
   no_mail : (w : ℕ) → boxes none first w ≡ []
   unfolding at_rest
@@ -43,17 +50,30 @@ module _ (W : World) (P : Proper W) where
   pub Kept-started : Kept W (process first) none [] first
   unfolding started started_with fresh
   Kept-started = record {
-    sized = record { messages = length-replicate 256 blank; places = P.full_sized; workers = length-replicate 8 at_rest; processes = refl };
+    sized = record {
+      messages = length-replicate 256 blank;
+      places = P.full_sized;
+      workers = length-replicate 8 at_rest;
+      processes = refl;
+    };
     ended = record { gvt_ends = omega arith; floor_ends = omega arith };
     fit = record { fits = λ b h. absurd (off (λ m. is_live m.phase) refl b h) };
-    placed = record { out = λ b h. absurd (off (λ m. is_live m.phase) refl b h); rests = λ b h l. none_out_at W.lanes.full P.none_out b (let i = P.full_sized in omega arith) };
+    placed = record {
+      out = λ b h. absurd (off (λ m. is_live m.phase) refl b h);
+      rests = λ b h l. none_out_at W.lanes.full P.none_out b (let i = P.full_sized in omega arith);
+    };
     boxed = record {
       moves = λ b h. absurd (off (λ m. is_transit m.phase) refl b h);
       ends = λ b h. absurd (off (λ m. m.cancelled) refl b h);
       due = λ w b i. absurd (rw (no_mail w) at i);
       homed = λ w b i. absurd (rw (no_mail w) at i);
       once = λ w. rw (no_mail w) tt;
-      reached = λ b. elim [ inl h ↦ absurd (off (λ m. is_transit m.phase) refl b h) | inr h ↦ absurd (off (λ m. m.cancelled) refl b h) ];
+      reached =
+          λ b. elim [
+            | inl h ↦ absurd (off (λ m. is_transit m.phase) refl b h)
+            | inr h ↦
+                absurd (off (λ m. m.cancelled) refl b h)
+          ];
     };
     keyed = record {
       queues = λ w. rw (no_mail w) tt;

@@ -1,11 +1,12 @@
 -- Calls that leave what is ready as it was, lower no GVT and accept no post, one after the other.
 use Rattle.std.proofs.Common.{◌≡◌, ℕ, ◌≤◌, sym, ◌∙◌, subst, arith}
-use Rattle.sequential.specs.declared.base.Process.{Process}
+use Rattle.sequential.specs.declared.event.Process.{Process}
 use Rattle.machine.specs.Machine.{Machine}
 use Rattle.law.proofs.Invariant.{lives, flags, events, Ready, Steady}
 use Rattle.law.proofs.Parts.{agree}
 
-pub Steady-same : {base : ℕ → Process} {s s' : Machine} → lives s' ≡ lives s → flags s' ≡ flags s → events s' ≡ events s → s.gvt ≤ s'.gvt → s'.posted ≡ s.posted → Steady base s s'
+pub Steady-same : {base : ℕ → Process} {s s' : Machine} → lives s' ≡ lives s → flags s' ≡ flags s →
+    events s' ≡ events s → s.gvt ≤ s'.gvt → s'.posted ≡ s.posted → Steady base s s'
 Steady-same lv fl ev gvt posted = record {
   gvt = gvt;
   posted = posted;
@@ -17,6 +18,10 @@ pub Steady-more : {base : ℕ → Process} {s s' s'' : Machine} → Steady base 
 Steady-more {base} X Y = record {
   gvt = let i = X.gvt in let j = Y.gvt in omega arith;
   posted = Y.posted ∙ X.posted;
-  stays = λ b l g r. let x = X.stays b l g r in let y = Y.stays b x.0 x.1 (subst (Ready base) (sym x.2) r) in (y.0, y.1, y.2 ∙ x.2);
-  comes = λ b l g r. let y = Y.comes b l g r in let x = X.comes b y.0 y.1 (subst (Ready base) y.2 r) in (x.0, x.1, y.2 ∙ x.2);
+  stays = λ b l g r. let x = X.stays b l g r in
+      let y = Y.stays b x.0 x.1 (subst (Ready base) (sym x.2) r) in
+      (y.0, y.1, y.2 ∙ x.2);
+  comes = λ b l g r. let y = Y.comes b l g r in
+      let x = X.comes b y.0 y.1 (subst (Ready base) y.2 r) in
+      (x.0, x.1, y.2 ∙ x.2);
 }

@@ -1,8 +1,9 @@
--- What a proper world gives: every process of the model is at home with one of the workers, and a new pool has no buffer out.
+-- What a proper world gives: every process of the model is at home with one of the workers, and a new pool has no
+-- buffer out.
 use Rattle.std.proofs.Common.{◌≡◌, ℕ, zero, suc, ◌<◌, List, [], ◌∷◌, length, arith}
 use Rattle.pool.specs.Lanes.{place_at, lent}
-use Rattle.pool.specs.declared.base.Place.{Place}
-use Rattle.pool.specs.declared.base.Place.TheVariants.{Out, Lane}
+use Rattle.pool.specs.declared.place.Place.{Place}
+use Rattle.pool.specs.declared.place.Place.TheVariants.{Out, Lane}
 use Rattle.machine.specs.Calls.{World}
 use Rattle.machine.specs.Machine.{home}
 use Rattle.law.specs.Law.{Proper}

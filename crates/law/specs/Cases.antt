@@ -1,5 +1,5 @@
--- That the law speaks of something: proper worlds for both models over the lanes of both pools, and a run in each of them with a
--- rollback, an annihilation, a round that raises GVT, and two collections.
+-- That the law speaks of something: proper worlds for both models over the lanes of both pools, and a run in each of
+-- them with a rollback, an annihilation, a round that raises GVT, and two collections.
 use Rattle.std.specs.Prelude.{◌^◌, ◌≤◌, [], ◌∷◌}
 use Rattle.std.proofs.Common.{lit≤}
 use Rattle.model.specs.Formulas.{switch, phold}
@@ -7,13 +7,13 @@ use Rattle.model.specs.Meaning.{Meaning}
 use Rattle.pool.specs.Lanes.{Lanes}
 use Rattle.pool.specs.Pools.{common_lanes, receiver_lanes}
 use Rattle.sequential.specs.Events.{outside}
-use Rattle.sequential.specs.declared.base.Verdict.TheVariants.{Fine}
+use Rattle.sequential.specs.declared.event.Verdict.TheVariants.{Fine}
 use Rattle.machine.specs.Calls.{World, Transcript, Run}
 use Rattle.machine.specs.Cases.{plan, line, words, ends100}
 use Rattle.machine.specs.Machine.{Machine}
-use Rattle.machine.specs.declared.base.Answer.TheVariants.{Posted, Absorbed, Stepped, Opened, Told, Collected}
-use Rattle.machine.specs.declared.base.Call.TheVariants.{Post, Absorb, Step, Round, Report, Collect}
-use Rattle.machine.specs.declared.base.Plan.{Plan}
+use Rattle.machine.specs.declared.call.Answer.TheVariants.{Posted, Absorbed, Stepped, Opened, Told, Collected}
+use Rattle.machine.specs.declared.call.Call.TheVariants.{Post, Absorb, Step, Round, Report, Collect}
+use Rattle.machine.specs.declared.plan.Plan.{Plan}
 use Rattle.law.specs.Law.{Proper, start}
 
 abbrev pub over : Meaning → Lanes → Plan → World
@@ -32,14 +32,19 @@ IsRunOf W r = (s : Machine) × Run W (start W) r s
 abbrev pub switching : Lanes → World
 switching l = over (switch 2 3) l (plan 100 ends100)
 
--- a late cell undoes one event and cancels its message, which is annihilated; all three lines are collected in two parts
+-- a late cell undoes one event and cancels its message, which is annihilated; all three lines are collected in two
+-- parts
 abbrev pub switched : Transcript
 switched =
     (Post 0 20 1, Posted 0) ∷ (Absorb 0, Absorbed 0 0 0) ∷ (Step 0, Stepped 20 0 1) ∷
     (Post 0 10 0, Posted 1) ∷ (Absorb 0, Absorbed 0 1 1) ∷ (Absorb 1, Absorbed 1 0 0) ∷
     (Step 0, Stepped 10 0 0) ∷ (Step 0, Stepped 20 0 1) ∷ (Absorb 1, Absorbed 0 0 0) ∷ (Step 1, Stepped 23 1 0) ∷
-    (Round, Opened 2) ∷ (Report 0, Told 1 0) ∷ (Report 1, Told 0 100) ∷
-    (Collect 2, Collected (line 10 0 outside 1 0 Fine (words 13 1 0) ∷ line 20 0 outside 0 1 Fine (words 23 2 0) ∷ []) 1) ∷
+    (Round, Opened 2) ∷ (Report 0, Told 1 0) ∷ (Report 1, Told 0 100) ∷ (
+      Collect 2,
+      Collected (
+          line 10 0 outside 1 0 Fine (words 13 1 0) ∷
+          line 20 0 outside 0 1 Fine (words 23 2 0) ∷ []) 1,
+    ) ∷
     (Collect 8, Collected (line 23 1 0 0 0 Fine (words 26 1 0) ∷ []) 0) ∷ []
 
 -- ---- the synthetic load of two processes with the seed 37

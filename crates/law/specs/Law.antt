@@ -1,26 +1,26 @@
 -- The law of runs: what every run of calls keeps, in terms of what its calls answered, the sequential run of its posts,
 -- and the machine's messages and places.
-use Rattle.std.specs.Prelude.{◌≡◌, ℕ, suc, ◌+◌, ◌<◌, ◌≤◌, true, false, if◌then◌else◌, ◌⊎◌, List, [], ◌∷◌, ◌++◌, map, length, ◌≢◌, nat_lt, slice_index_or}
+use Rattle.std.specs.Prelude.{◌≡◌, ℕ, suc, ◌+◌, ◌<◌, ◌≤◌, true, false, if◌then◌else◌, ◌⊎◌, List, [], ◌∷◌, ◌++◌, map}
+use Rattle.std.specs.Prelude.{length, ◌≢◌, nat_lt, slice_index_or}
 use Rattle.pool.specs.Lanes.{lent}
-use Rattle.sequential.specs.Events.{outside}
 use Rattle.sequential.specs.Run.{run}
-use Rattle.sequential.specs.declared.base.Event.{Event}
-use Rattle.sequential.specs.declared.base.Line.{Line}
-use Rattle.machine.specs.Calls.{World, Transcript, Does, Run}
+use Rattle.sequential.specs.declared.event.Event.{Event}
+use Rattle.sequential.specs.declared.event.Line.{Line}
+use Rattle.machine.specs.Calls.{World, Transcript, Does, Run, post_as}
 use Rattle.machine.specs.Machine.{Machine, started, at}
-use Rattle.machine.specs.declared.base.Answer.{Answer}
-use Rattle.machine.specs.declared.base.Answer.TheVariants.{Refused, Posted, Absorbed, Stepped, Opened, Told, Collected}
-use Rattle.machine.specs.declared.base.Call.{Call}
-use Rattle.machine.specs.declared.base.Call.TheVariants.{Post, Absorb, Step, Round, Report, Collect}
-use Rattle.machine.specs.declared.base.Message.{Message}
-use Rattle.machine.specs.declared.base.Phase.TheVariants.{Free, Transit, Pending}
+use Rattle.machine.specs.declared.call.Answer.{Answer}
+use Rattle.machine.specs.declared.call.Answer.TheVariants.{Refused, Posted, Absorbed, Stepped, Opened, Told, Collected}
+use Rattle.machine.specs.declared.call.Call.{Call}
+use Rattle.machine.specs.declared.call.Call.TheVariants.{Post, Absorb, Step, Round, Report, Collect}
+use Rattle.machine.specs.declared.message.Message.{Message}
+use Rattle.machine.specs.declared.message.Phase.TheVariants.{Free, Transit, Pending}
 
 -- ---- what a transcript tells
 
 -- the post that a call and its answer tell of
 abbrev pub post_told : Call → Answer (List Line) → List Event
 post_told (Post p t x) (Refused r) = []
-post_told (Post p t x) (Posted n) = record { time = t; process = p; sender = outside; number = n; payload = x } ∷ []
+post_told (Post p t x) (Posted n) = post_as n p t x ∷ []
 post_told (Post p t x) (Absorbed a b c) = []
 post_told (Post p t x) (Stepped a b c) = []
 post_told (Post p t x) (Opened n) = []
@@ -83,8 +83,8 @@ collected_lines [] = []
 collected_lines (x ∷ xs) = lines_told x.1 ++ collected_lines xs
 
 -- the calls made
-abbrev pub calls_of : Transcript → List Call
-calls_of r = map (λ x. x.0) r
+abbrev pub calls_in : Transcript → List Call
+calls_in r = map (λ x. x.0) r
 
 -- how many lines are earlier than a time
 abbrev pub before : ℕ → List Line → ℕ
@@ -102,7 +102,8 @@ pub data Unsettled : Message → Type 0 where
 -- the law at the machine s, to which the transcript r leads from the start
 pub record Holds (W : World) (r : Transcript) (s : Machine) : Type 0 where
   -- the lines collected are earlier than GVT
-  pub committed : (k : ℕ) (d : Line) → k < length (collected_lines r) → (slice_index_or (collected_lines r) k d).event.time < s.gvt
+  pub committed : (k : ℕ) (d : Line) → k < length (collected_lines r) →
+      (slice_index_or (collected_lines r) k d).event.time < s.gvt
   -- they are a front of the sequential run of the posts accepted so far
   pub sequential : (rest : List Line) × (run W.model W.plan.limits (posts r) ≡ collected_lines r ++ rest)
   -- these posts are numbered in their order
@@ -122,14 +123,17 @@ pub record Proper (W : World) : Type 0 where
 abbrev pub start : World → Machine
 start W = started W.model W.lanes W.plan
 
--- a collection answers as remaining how many lines of the sequential run are then earlier than GVT and not collected; and it hands
--- out as many as were asked for, or none remain
+-- a collection answers as remaining how many lines of the sequential run are then earlier than GVT and not collected;
+-- and it hands out as many as were asked for, or none remain
 abbrev pub Remaining : World → Type 0
 Remaining W =
-    (r : Transcript) (k n : ℕ) (ls : List Line) (s s' : Machine) → Run W (start W) r s → Does W s (Collect k) (Collected ls n) s' →
-    (n + length (collected_lines r ++ ls) ≡ before s'.gvt (run W.model W.plan.limits (posts r))) × ((n ≡ 0) ⊎ (length ls ≡ k))
+    (r : Transcript) (k n : ℕ) (ls : List Line) (s s' : Machine) → Run W (start W) r s →
+    Does W s (Collect k) (Collected ls n) s' →
+    (n + length (collected_lines r ++ ls) ≡ before s'.gvt (run W.model W.plan.limits (posts r))) ×
+    ((n ≡ 0) ⊎ (length ls ≡ k))
 
--- in a proper world every run keeps the law, GVT never falls from one point of a run to a later one, and collections answer what remains
+-- in a proper world every run keeps the law, GVT never falls from one point of a run to a later one, and collections
+-- answer what remains
 abbrev pub Lawful : Type 0
 Lawful =
     (W : World) → Proper W →
@@ -145,21 +149,24 @@ abbrev pub Reports : Transcript → Type 0
 Reports [] = Unit {0}
 Reports (x ∷ xs) = ((w : ℕ) × (x.0 ≡ Report w)) × Reports xs
 
--- a round in which nothing but its reports is called sets GVT to the earliest unsettled time, or to the end; and where nothing is
--- unsettled, what a collection then hands out and tells to remain is the rest of the whole sequential run
+-- a round in which nothing but its reports is called sets GVT to the earliest unsettled time, or to the end; and where
+-- nothing is unsettled, what a collection then hands out and tells to remain is the rest of the whole sequential run
 abbrev pub QuietRoundsAreExact : Type 0
 QuietRoundsAreExact =
     (W : World) → Proper W →
-    (r round : Transcript) (n : ℕ) (s s' : Machine) → Run W (start W) r s → Run W s ((Round, Opened n) ∷ round) s' → Reports round → s'.rounding ≡ false →
+    (r round : Transcript) (n : ℕ) (s s' : Machine) → Run W (start W) r s → Run W s ((Round, Opened n) ∷ round) s' →
+    Reports round → s'.rounding ≡ false →
     Attained W s' s'.gvt ×
-    (((b : ℕ) → Unsettled (at s' b) → ⊥) → (k m : ℕ) (ls : List Line) (s'' : Machine) → Does W s' (Collect k) (Collected ls m) s'' →
+    (((b : ℕ) → Unsettled (at s' b) → ⊥) → (k m : ℕ) (ls : List Line) (s'' : Machine) →
+    Does W s' (Collect k) (Collected ls m) s'' →
     m + length (collected_lines r ++ ls) ≡ length (run W.model W.plan.limits (posts r)))
 
--- two runs of the same calls, which may draw other buffers of the same lanes, answer the same, and come to the same GVT and
--- to as many buffers out
+-- two runs of the same calls, which may draw other buffers of the same lanes, answer the same, and come to the same GVT
+-- and to as many buffers out
 abbrev pub AnswersFixedByCalls : Type 0
 AnswersFixedByCalls =
-    (W : World) → Proper W → (r r' : Transcript) (s s' : Machine) → Run W (start W) r s → Run W (start W) r' s' → calls_of r ≡ calls_of r' →
+    (W : World) → Proper W → (r r' : Transcript) (s s' : Machine) → Run W (start W) r s → Run W (start W) r' s' →
+    calls_in r ≡ calls_in r' →
     (r ≡ r') × (s.gvt ≡ s'.gvt) × (lent s.places ≡ lent s'.places)
 
 -- from the start, the calls have this transcript, and only this one
@@ -167,10 +174,11 @@ pub record Answered (W : World) (calls_made : List Call) : Type 0 where
   pub transcript : Transcript
   pub machine : Machine
   pub run : Run W (start W) transcript machine
-  pub calls : calls_of transcript ≡ calls_made
-  pub only : (r : Transcript) (s : Machine) → Run W (start W) r s → calls_of r ≡ calls_made → r ≡ transcript
+  pub calls : calls_in transcript ≡ calls_made
+  pub only : (r : Transcript) (s : Machine) → Run W (start W) r s → calls_in r ≡ calls_made → r ≡ transcript
 
--- in every machine every call has an answer and a machine after it; so in a proper world a list of calls has exactly one list of answers
+-- in every machine every call has an answer and a machine after it; so in a proper world a list of calls has exactly
+-- one list of answers
 abbrev pub EveryCallIsAnswered : Type 0
 EveryCallIsAnswered =
     ((W : World) (s : Machine) (c : Call) → (a : Answer (List Line)) × (s' : Machine) × Does W s c a s') ×

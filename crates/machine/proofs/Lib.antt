@@ -1,3 +1,3 @@
 mod Worked
-pub mod Room
 pub mod Steps
+pub mod Texts

@@ -1,21 +1,25 @@
 -- The six calls: when each is refused, what it answers, what it does; and runs of calls.
-use Rattle.std.specs.Prelude.{◌≡◌, ℕ, suc, ◌+◌, min, Bool, true, false, if◌then◌else◌, not, List, [], ◌∷◌, map, is_some, Some, None, Option, ◌==◌, nat_le, nat_lt, slice_index_or, slice_set}
+use Rattle.std.specs.Prelude.{◌≡◌, ℕ, suc, ◌+◌, min, Bool, true, false, if◌then◌else◌, not, List, [], ◌∷◌, map, is_some}
+use Rattle.std.specs.Prelude.{Some, None, Option, ◌==◌, nat_le, nat_lt, slice_index_or, slice_set}
 use Rattle.model.specs.Formulas.{outside_limits}
 use Rattle.model.specs.Meaning.{Meaning, listed, many}
 use Rattle.pool.specs.Lanes.{Lanes, lies}
-use Rattle.pool.specs.declared.base.Place.{Place}
-use Rattle.pool.specs.declared.base.Place.TheVariants.{Out, Lane}
-use Rattle.sequential.specs.Events.{outside}
-use Rattle.sequential.specs.declared.base.Event.{Event}
-use Rattle.sequential.specs.declared.base.Line.{Line}
-use Rattle.machine.specs.declared.base.Answer.{Answer}
-use Rattle.machine.specs.declared.base.Answer.TheVariants.{Refused, Posted, Absorbed, Stepped, Opened, Told, Collected}
-use Rattle.machine.specs.declared.base.Call.{Call}
-use Rattle.machine.specs.declared.base.Call.TheVariants.{Post, Absorb, Step, Round, Report, Collect}
-use Rattle.machine.specs.declared.base.Plan.{Plan}
-use Rattle.machine.specs.declared.base.Refusal.{Refusal}
-use Rattle.machine.specs.declared.base.Refusal.TheVariants.{OutsideLimits, NoProcess, NoWorker, BeforeGvt, PastEnd, CapReached, LaneShort, InboxEmpty, NothingPending, RoundOpen, NoRound, Reported}
-use Rattle.machine.specs.Machine.{Machine, home, at, worker, first, next, doing, few, sent, with_outside, stepped, absorbed, opened, reported, missing, collected, remaining}
+use Rattle.pool.specs.declared.place.Place.{Place}
+use Rattle.pool.specs.declared.place.Place.TheVariants.{Out, Lane}
+use Rattle.sequential.specs.Posts.{posted_event}
+use Rattle.sequential.specs.declared.event.Event.{Event}
+use Rattle.sequential.specs.declared.event.Line.{Line}
+use Rattle.machine.specs.declared.call.Answer.{Answer}
+use Rattle.machine.specs.declared.call.Answer.TheVariants.{Refused, Posted, Absorbed, Stepped, Opened, Told, Collected}
+use Rattle.machine.specs.declared.call.Call.{Call}
+use Rattle.machine.specs.declared.call.Call.TheVariants.{Post, Absorb, Step, Round, Report, Collect}
+use Rattle.machine.specs.declared.plan.Plan.{Plan}
+use Rattle.machine.specs.declared.refusal.Refusal.{Refusal}
+use Rattle.machine.specs.declared.refusal.Refusal.TheVariants.{OutsideLimits, NoProcess, NoWorker, BeforeGvt, PastEnd}
+use Rattle.machine.specs.declared.refusal.Refusal.TheVariants.{CapReached, LaneShort, InboxEmpty, NothingPending}
+use Rattle.machine.specs.declared.refusal.Refusal.TheVariants.{RoundOpen, NoRound, Reported}
+use Rattle.machine.specs.Machine.{Machine, home, at, worker, first, next, doing, few, sent, with_outside, stepped}
+use Rattle.machine.specs.Machine.{absorbed, opened, reported, missing, collected, remaining}
 
 -- the number of each refusal
 abbrev pub code : Refusal → ℕ
@@ -31,6 +35,10 @@ code NothingPending = 9
 code RoundOpen = 10
 code NoRound = 11
 code Reported = 12
+
+-- the event of a post by its number: process, time, payload
+abbrev pub post_as : ℕ → ℕ → ℕ → ℕ → Event
+post_as n p t x = posted_event n (record { process = p; time = t; payload = x })
 
 -- what a run rests on: a model, a pool, and what was set up
 pub record World : Type 0 where
@@ -59,21 +67,22 @@ module _ (W : World) where
   post_lane p = W.lanes.draw 8 (home W.plan p)
 
   -- the lanes that the messages of the worker w draw from, in their order
-  abbrev pub lanes_of : ℕ → List Event → List ℕ
-  lanes_of w es = map (λ e. W.lanes.draw w (home W.plan e.process)) es
+  abbrev pub draw_lanes : ℕ → List Event → List ℕ
+  draw_lanes w es = map (λ e. W.lanes.draw w (home W.plan e.process)) es
 
   -- the lanes that a call which is not refused draws from: a post from one, a step from one for each message
-  unfoldable pub draws : Machine → Call → List ℕ
-  draws s (Post p t x) = post_lane p ∷ []
-  draws s (Absorb w) = []
-  draws s (Step w) = elim (next W.plan w s) [ None ↦ [] | Some b ↦ lanes_of w (listed (doing W.model W.plan s b).sends) ]
-  draws s Round = []
-  draws s (Report w) = []
-  draws s (Collect k) = []
+  unfoldable pub lanes_drawn : Machine → Call → List ℕ
+  lanes_drawn s (Post p t x) = post_lane p ∷ []
+  lanes_drawn s (Absorb w) = []
+  lanes_drawn s (Step w) =
+      elim (next W.plan w s) [ None ↦ [] | Some b ↦ draw_lanes w (listed (doing W.model W.plan s b).sends) ]
+  lanes_drawn s Round = []
+  lanes_drawn s (Report w) = []
+  lanes_drawn s (Collect k) = []
 
   -- some draw lane has too few buffers for the call's messages
-  abbrev pub short : Machine → Call → Bool
-  short s c = not (enough s.places (draws s c) (draws s c))
+  abbrev pub lacks_buffers : Machine → Call → Bool
+  lacks_buffers s c = not (enough s.places (lanes_drawn s c) (lanes_drawn s c))
 
   abbrev pub worker_row : ℕ → Bool × Refusal
   worker_row w = (nat_le W.plan.workers w, NoWorker)
@@ -86,10 +95,13 @@ module _ (W : World) where
       (nat_lt t s.gvt, BeforeGvt) ∷
       (nat_le W.plan.limits.end t, PastEnd) ∷
       ((s.posted == W.plan.limits.most), CapReached) ∷
-      (short s (Post p t x), LaneShort) ∷ [])
+      (lacks_buffers s (Post p t x), LaneShort) ∷ [])
   refusal s (Absorb w) = first_refusal (worker_row w ∷ (not (is_some (first (worker s w).inbox)), InboxEmpty) ∷ [])
   refusal s (Step w) =
-      first_refusal (worker_row w ∷ (short s (Step w), LaneShort) ∷ (not (is_some (next W.plan w s)), NothingPending) ∷ [])
+      first_refusal (
+      worker_row w ∷
+      (lacks_buffers s (Step w), LaneShort) ∷
+      (not (is_some (next W.plan w s)), NothingPending) ∷ [])
   refusal s Round = first_refusal ((s.rounding, RoundOpen) ∷ [])
   refusal s (Report w) =
       first_refusal (worker_row w ∷ (not s.rounding, NoRound) ∷ (is_some (worker s w).report, Reported) ∷ [])
@@ -97,7 +109,7 @@ module _ (W : World) where
 
   -- the event of a post that is accepted now
   abbrev pub post_of : Machine → ℕ → ℕ → ℕ → Event
-  post_of s p t x = record { time = t; process = p; sender = outside; number = s.posted; payload = x }
+  post_of s p t x = post_as s.posted p t x
 
   -- what a call that is not refused does, with the buffers bs that it drew
   unfoldable pub does : Machine → Call → List ℕ → Machine
@@ -128,14 +140,16 @@ module _ (W : World) where
       Collected r.lines (remaining r.machine)
 
 -- the buffers bs are drawn from the lanes ls one after the other; which buffer of a lane is drawn is undecided
-pub data Drawn : List Place → List ℕ → List ℕ → Type 0 where
-  none : {places : List Place} → Drawn places [] []
-  one : {places : List Place} {l b : ℕ} {ls bs : List ℕ} → slice_index_or places b Out ≡ Lane l → Drawn (slice_set places b Out) ls bs → Drawn places (l ∷ ls) (b ∷ bs)
+pub data DrawnAll : List Place → List ℕ → List ℕ → Type 0 where
+  none : {places : List Place} → DrawnAll places [] []
+  one : {places : List Place} {l b : ℕ} {ls bs : List ℕ} → slice_index_or places b Out ≡ Lane l →
+      DrawnAll (slice_set places b Out) ls bs → DrawnAll places (l ∷ ls) (b ∷ bs)
 
 -- one call, its answer, and the machine after it: a refused call leaves the machine as it was
 pub data Does (W : World) (s : Machine) (c : Call) : Answer (List Line) → Machine → Type 0 where
   refuses : (r : Refusal) → refusal W s c ≡ Some r → Does W s c (Refused r) s
-  acts : (bs : List ℕ) → refusal W s c ≡ None → Drawn s.places (draws W s c) bs → Does W s c (answers W s c) (does W s c bs)
+  acts : (bs : List ℕ) → refusal W s c ≡ None → DrawnAll s.places (lanes_drawn W s c) bs →
+      Does W s c (answers W s c) (does W s c bs)
 
 -- the calls with their answers
 abbrev pub Transcript : Type 0
@@ -144,4 +158,5 @@ Transcript = List (Call × Answer (List Line))
 -- calls made one after the other lead from a machine to a machine
 pub data Run (W : World) : Machine → Transcript → Machine → Type 0 where
   rests : {s : Machine} → Run W s [] s
-  goes : {s s₁ s₂ : Machine} {c : Call} {a : Answer (List Line)} {r : Transcript} → Does W s c a s₁ → Run W s₁ r s₂ → Run W s ((c, a) ∷ r) s₂
+  goes : {s s₁ s₂ : Machine} {c : Call} {a : Answer (List Line)} {r : Transcript} → Does W s c a s₁ → Run W s₁ r s₂ →
+      Run W s ((c, a) ∷ r) s₂

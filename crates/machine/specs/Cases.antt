@@ -3,18 +3,18 @@ use Rattle.std.specs.Prelude.{◌≡◌, ℕ, zero, suc, ◌^◌, ◌<◌, ◌�
 use Rattle.std.proofs.Common.{lit<, lit≤, arith}
 use Rattle.std.proofs.lemmas.List.{get_or-replicate}
 use Rattle.model.specs.Formulas.{switch, zeros}
-use Rattle.model.specs.declared.base.State.{State}
+use Rattle.model.specs.declared.state.State.{State}
 use Rattle.pool.specs.Pools.{common_lanes}
 use Rattle.sequential.specs.Events.{outside}
-use Rattle.sequential.specs.declared.base.Line.{Line}
-use Rattle.sequential.specs.declared.base.Verdict.{Verdict}
-use Rattle.sequential.specs.declared.base.Verdict.TheVariants.{Fine, ModelFault}
-use Rattle.machine.specs.declared.base.Answer.{Answer}
-use Rattle.machine.specs.declared.base.Answer.TheVariants.{Refused, Posted, Absorbed, Stepped, Opened, Told, Collected}
-use Rattle.machine.specs.declared.base.Call.{Call}
-use Rattle.machine.specs.declared.base.Call.TheVariants.{Post, Absorb, Step, Round, Report, Collect}
-use Rattle.machine.specs.declared.base.Plan.{Plan}
-use Rattle.machine.specs.declared.base.Refusal.TheVariants.{BeforeGvt}
+use Rattle.sequential.specs.declared.event.Line.{Line}
+use Rattle.sequential.specs.declared.event.Verdict.{Verdict}
+use Rattle.sequential.specs.declared.event.Verdict.TheVariants.{Fine, ModelFault}
+use Rattle.machine.specs.declared.call.Answer.{Answer}
+use Rattle.machine.specs.declared.call.Answer.TheVariants.{Refused, Posted, Absorbed, Stepped, Opened, Told, Collected}
+use Rattle.machine.specs.declared.call.Call.{Call}
+use Rattle.machine.specs.declared.call.Call.TheVariants.{Post, Absorb, Step, Round, Report, Collect}
+use Rattle.machine.specs.declared.plan.Plan.{Plan}
+use Rattle.machine.specs.declared.refusal.Refusal.TheVariants.{BeforeGvt}
 use Rattle.machine.specs.Machine.{Machine, started}
 use Rattle.machine.specs.Calls.{World, refusal, does, answers}
 
@@ -54,7 +54,11 @@ answers_by end ends cs = play (world end ends) (started (switch 2 3) common_lane
 
 abbrev pub line : ℕ → ℕ → ℕ → ℕ → ℕ → Verdict → State → Line
 line time process sender number payload v s =
-    record { event = record { time = time; process = process; sender = sender; number = number; payload = payload }; verdict = v; state = s }
+    record {
+      event = record { time = time; process = process; sender = sender; number = number; payload = payload };
+      verdict = v;
+      state = s;
+    }
 
 abbrev pub words : ℕ → ℕ → ℕ → State
 words a b c = record { w0 = a; w1 = b; w2 = c; w3 = 0 }
@@ -85,7 +89,8 @@ StragglerIsCollectedInOrder =
 abbrev pub CancellationChasesItsMessages : Type 0
 CancellationChasesItsMessages =
     answers_by 100 ends100 (
-    (Post 0 10 2, 0 ∷ []) ∷ (Absorb 0, []) ∷ (Step 0, 1 ∷ []) ∷ (Absorb 1, []) ∷ (Step 1, 2 ∷ []) ∷ (Post 0 9 0, 3 ∷ []) ∷
+    (Post 0 10 2, 0 ∷ []) ∷ (Absorb 0, []) ∷ (Step 0, 1 ∷ []) ∷ (Absorb 1, []) ∷ (Step 1, 2 ∷ []) ∷
+    (Post 0 9 0, 3 ∷ []) ∷
     (Absorb 0, []) ∷ (Absorb 0, []) ∷ (Absorb 1, []) ∷ (Absorb 0, []) ∷ [])
     ≡ (Posted 0 ∷ Absorbed 0 0 0 ∷ Stepped 10 0 1 ∷ Absorbed 0 0 0 ∷ Stepped 13 1 1 ∷ Posted 1 ∷
     Absorbed 0 0 0 ∷ Absorbed 0 1 1 ∷ Absorbed 1 1 1 ∷ Absorbed 1 0 0 ∷ [])
@@ -101,18 +106,22 @@ FloorsHoldGvt =
 -- a message due at the end is struck out, and one due just before it is sent
 abbrev pub TheEndStrikesAtItsEdge : Type 0
 TheEndStrikesAtItsEdge =
-    (answers_by 13 ends13 ((Post 0 10 1, 0 ∷ []) ∷ (Absorb 0, []) ∷ (Step 0, []) ∷ []) ≡ (Posted 0 ∷ Absorbed 0 0 0 ∷ Stepped 10 0 0 ∷ []))
-    × (answers_by 14 ends14 ((Post 0 10 1, 0 ∷ []) ∷ (Absorb 0, []) ∷ (Step 0, 1 ∷ []) ∷ []) ≡ (Posted 0 ∷ Absorbed 0 0 0 ∷ Stepped 10 0 1 ∷ []))
+    (answers_by 13 ends13 ((Post 0 10 1, 0 ∷ []) ∷ (Absorb 0, []) ∷ (Step 0, []) ∷ []) ≡
+    (Posted 0 ∷ Absorbed 0 0 0 ∷ Stepped 10 0 0 ∷ []))
+    × (answers_by 14 ends14 ((Post 0 10 1, 0 ∷ []) ∷ (Absorb 0, []) ∷ (Step 0, 1 ∷ []) ∷ []) ≡
+    (Posted 0 ∷ Absorbed 0 0 0 ∷ Stepped 10 0 1 ∷ []))
 
 -- a cell with too many hops is the model's fault 2, and leaves zero words
 abbrev pub AFaultIsALine : Type 0
 AFaultIsALine =
     answers_by 100 ends100 (
-    (Post 0 10 256, 0 ∷ []) ∷ (Absorb 0, []) ∷ (Step 0, []) ∷ (Round, []) ∷ (Report 0, []) ∷ (Report 1, []) ∷ (Collect 1, []) ∷ [])
+    (Post 0 10 256, 0 ∷ []) ∷ (Absorb 0, []) ∷ (Step 0, []) ∷ (Round, []) ∷ (Report 0, []) ∷ (Report 1, []) ∷
+    (Collect 1, []) ∷ [])
     ≡ (Posted 0 ∷ Absorbed 0 0 0 ∷ Stepped 10 0 0 ∷ Opened 2 ∷ Told 1 0 ∷ Told 0 100 ∷
     Collected (line 10 0 outside 0 256 (ModelFault 2) zeros ∷ []) 0 ∷ [])
 
--- the eight cases: a straggler, chased cancellations, a floor that holds GVT with a post before it and one at it, the end at both sides of its edge, a fault
+-- the eight cases: a straggler, chased cancellations, a floor that holds GVT with a post before it and one at it, the
+-- end at both sides of its edge, a fault
 abbrev pub TheWorkedCasesHold : Type 0
 TheWorkedCasesHold =
     StragglerIsCollectedInOrder × CancellationChasesItsMessages × FloorsHoldGvt × TheEndStrikesAtItsEdge × AFaultIsALine

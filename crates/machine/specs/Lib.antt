@@ -1,3 +1,4 @@
 pub mod Machine
 pub mod Calls
 pub mod Cases
+pub mod Text

@@ -1,48 +1,42 @@
--- The Time Warp machine: processes, messages by their buffers, workers, and the pool's places; and what becomes of them.
-use Rattle.std.specs.Prelude.{ℕ, zero, suc, ◌+◌, min, Bool, true, false, if◌then◌else◌, not, ◌&&◌, List, [], ◌∷◌, ◌++◌, map, length, slice_index_or, replicate, Some, None, Option, ◌==◌, nat_lt, slice_index, slice_set}
+-- The Time Warp machine: processes, messages by their buffers, workers, the pool's places, and what becomes of them.
+use Rattle.std.specs.Prelude.{ℕ, zero, suc, ◌+◌, min, Bool, true, false, if◌then◌else◌, not, ◌&&◌, List, [], ◌∷◌, ◌++◌}
+use Rattle.std.specs.Prelude.{map, length, slice_index_or, replicate, Some, None, Option, ◌==◌, nat_lt, slice_index}
+use Rattle.std.specs.Prelude.{slice_set}
 use Rattle.model.specs.Formulas.{zeros}
 use Rattle.model.specs.Meaning.{Meaning, listed, many}
-use Rattle.model.specs.declared.base.Few.{Few}
-use Rattle.model.specs.declared.base.Few.TheVariants.{Nothing, One, Two}
+use Rattle.model.specs.declared.reaction.Few.{Few}
+use Rattle.model.specs.declared.reaction.Few.TheVariants.{Nothing, One, Two}
+pub use Rattle.inbox.specs.declared.worker.Worker.{Worker}
+pub use Rattle.inbox.specs.Queue.{entered, first, rest}
 use Rattle.pool.specs.Lanes.{Lanes}
-use Rattle.pool.specs.declared.base.Place.{Place}
-use Rattle.pool.specs.declared.base.Place.TheVariants.{Out, Lane}
-use Rattle.sequential.specs.Events.{earlier, applied, faulted, line_of, moved, nobody, outside}
+use Rattle.pool.specs.declared.place.Place.{Place}
+use Rattle.pool.specs.declared.place.Place.TheVariants.{Out, Lane}
+use Rattle.sequential.specs.Events.{earlier, applied, faulted, line_of, process_after, nobody, outside}
 use Rattle.sequential.specs.Run.{fresh}
-use Rattle.sequential.specs.declared.base.Event.{Event}
-use Rattle.sequential.specs.declared.base.Line.{Line}
-use Rattle.sequential.specs.declared.base.Outcome.{Outcome}
-use Rattle.sequential.specs.declared.base.Process.{Process}
-use Rattle.sequential.specs.declared.base.Verdict.TheVariants.{Fine}
-use Rattle.machine.specs.declared.base.Message.{Message}
-use Rattle.machine.specs.declared.base.Phase.{Phase}
-use Rattle.machine.specs.declared.base.Phase.TheVariants.{Free, Transit, Pending, Done}
-use Rattle.machine.specs.declared.base.Plan.{Plan}
+use Rattle.sequential.specs.declared.event.Event.{Event}
+use Rattle.sequential.specs.declared.event.Line.{Line}
+use Rattle.sequential.specs.declared.event.Outcome.{Outcome}
+use Rattle.sequential.specs.declared.event.Process.{Process}
+use Rattle.sequential.specs.declared.event.Verdict.TheVariants.{Fine}
+use Rattle.machine.specs.declared.message.Message.{Message}
+use Rattle.machine.specs.declared.message.Phase.{Phase}
+use Rattle.machine.specs.declared.message.Phase.TheVariants.{Free, Transit, Pending, Done}
+use Rattle.machine.specs.declared.plan.Plan.{Plan}
 
+-- whether a message is on its way, waits to be applied, or has been
 abbrev pub is_transit : Phase → Bool
-is_transit Free = false
 is_transit Transit = true
-is_transit Pending = false
-is_transit Done = false
+is_transit _ = false
 
 abbrev pub is_pending : Phase → Bool
-is_pending Free = false
-is_pending Transit = false
 is_pending Pending = true
-is_pending Done = false
+is_pending _ = false
 
 abbrev pub is_done : Phase → Bool
-is_done Free = false
-is_done Transit = false
-is_done Pending = false
 is_done Done = true
+is_done _ = false
 
--- one worker: its inbox, oldest first, its floor, and what it has reported in the open round
-pub record Worker : Type 0 where
-  pub inbox : List ℕ
-  pub floor : ℕ
-  pub report : Option ℕ
-
+-- the whole machine; floor is that of the outside, rounding says that a round is open
 pub record Machine : Type 0 where
   pub processes : List Process
   pub messages : List Message
@@ -53,15 +47,34 @@ pub record Machine : Type 0 where
   pub rounding : Bool
   pub gvt : ℕ
 
+-- what stands where there is no event
 abbrev pub no_event : Event
 no_event = record { time = 0; process = 0; sender = 0; number = 0; payload = 0 }
 
-abbrev pub blank : Message
-blank = record { phase = Free; cancelled = false; event = no_event; snapshot = nobody; outcome = faulted Fine zeros; sent = Nothing }
+-- a message that is not done, by its phase, whether it is cancelled, and its event
+abbrev pub fresh_of : Phase → Bool → Event → Message
+fresh_of p c e = record {
+  phase = p;
+  cancelled = c;
+  event = e;
+  snapshot = nobody;
+  outcome = faulted Fine zeros;
+  sent = Nothing;
+}
 
+-- a done one, with its process as it was before it, what it did, and the buffers of its messages
+abbrev pub done_of : Bool → Event → Process → Outcome → Few ℕ → Message
+done_of c e q o bs = record { phase = Done; cancelled = c; event = e; snapshot = q; outcome = o; sent = bs }
+
+-- what a free buffer holds
+abbrev pub blank : Message
+blank = fresh_of Free false no_event
+
+-- the worker that there is not
 abbrev pub idle : Worker
 idle = record { inbox = []; floor = 0; report = None }
 
+-- the message in the buffer b, the worker w, the process p, and the worker that p lives on
 abbrev pub at : Machine → ℕ → Message
 at s b = slice_index_or s.messages b blank
 
@@ -76,39 +89,27 @@ home u p = slice_index u.home p
 
 -- the machine with one part replaced
 abbrev pub with_process : ℕ → Process → Machine → Machine
-with_process p q s = record { processes = slice_set s.processes p q; messages = s.messages; workers = s.workers; places = s.places; posted = s.posted; floor = s.floor; rounding = s.rounding; gvt = s.gvt }
+with_process p q s = record s { processes = slice_set s.processes p q }
 
 abbrev pub with_message : ℕ → Message → Machine → Machine
-with_message b m s = record { processes = s.processes; messages = slice_set s.messages b m; workers = s.workers; places = s.places; posted = s.posted; floor = s.floor; rounding = s.rounding; gvt = s.gvt }
+with_message b m s = record s { messages = slice_set s.messages b m }
 
 abbrev pub with_worker : ℕ → Worker → Machine → Machine
-with_worker w x s = record { processes = s.processes; messages = s.messages; workers = slice_set s.workers w x; places = s.places; posted = s.posted; floor = s.floor; rounding = s.rounding; gvt = s.gvt }
+with_worker w x s = record s { workers = slice_set s.workers w x }
 
 abbrev pub with_place : ℕ → Place → Machine → Machine
-with_place b l s = record { processes = s.processes; messages = s.messages; workers = s.workers; places = slice_set s.places b l; posted = s.posted; floor = s.floor; rounding = s.rounding; gvt = s.gvt }
-
--- an inbox holds at most 256 buffers, which is all there are
-abbrev pub entered : ℕ → List ℕ → List ℕ
-entered b bs = if nat_lt (length bs) 256 then bs ++ (b ∷ []) else bs
+with_place b l s = record s { places = slice_set s.places b l }
 
 -- the worker j changed
 abbrev pub on_worker : ℕ → (Worker → Worker) → Machine → Machine
 on_worker j f s = with_worker j (f (worker s j)) s
 
+-- a worker with the buffer b behind its inbox, and one with its floor lowered to the time t
 abbrev pub entering : ℕ → Worker → Worker
-entering b x = record { inbox = entered b x.inbox; floor = x.floor; report = x.report }
+entering b x = record x { inbox = entered b x.inbox }
 
 abbrev pub lowering : ℕ → Worker → Worker
-lowering t x = record { inbox = x.inbox; floor = min x.floor t; report = x.report }
-
--- the oldest buffer of an inbox, and the others
-abbrev pub first : List ℕ → Option ℕ
-first [] = None
-first (b ∷ bs) = Some b
-
-abbrev pub rest : List ℕ → List ℕ
-rest [] = []
-rest (b ∷ bs) = bs
+lowering t x = record x { floor = min x.floor t }
 
 -- a buffer enters the inbox of the worker j
 unfoldable pub enter : ℕ → ℕ → Machine → Machine
@@ -122,13 +123,17 @@ lower w t s = on_worker w (lowering t) s
 abbrev pub chosen : (Message → Bool) → (Event → Event → Bool) → List Message → ℕ → Option ℕ → Event → Option ℕ
 chosen ok before [] i best e = best
 chosen ok before (m ∷ ms) i None e =
-    elim (ok m) [ true ↦ chosen ok before ms (suc i) (Some i) m.event | false ↦ chosen ok before ms (suc i) None e ]
+    if ok m then chosen ok before ms (suc i) (Some i) m.event else chosen ok before ms (suc i) None e
 chosen ok before (m ∷ ms) i (Some b) e =
-    elim (ok m && before m.event e) [ true ↦ chosen ok before ms (suc i) (Some i) m.event | false ↦ chosen ok before ms (suc i) (Some b) e ]
+    if ok m && before m.event e
+    then chosen ok before ms (suc i) (Some i) m.event
+    else chosen ok before ms (suc i) (Some b) e
 
+-- of the machine's messages
 unfoldable pub foremost : (Message → Bool) → (Event → Event → Bool) → Machine → Option ℕ
 foremost ok before s = chosen ok before s.messages 0 None no_event
 
+-- the order that a rollback goes by: latest first
 abbrev pub later : Event → Event → Bool
 later e f = earlier f e
 
@@ -144,18 +149,19 @@ latest p past s = foremost (λ m. is_done m.phase && (m.event.process == p && pa
 abbrev pub oldest : Machine → Option ℕ
 oldest s = foremost (λ m. is_done m.phase && nat_lt m.event.time s.gvt) earlier s
 
+-- a message under cancellation, and one that is pending again or for the first time
 abbrev pub marked : Message → Message
-marked m = record { phase = m.phase; cancelled = true; event = m.event; snapshot = m.snapshot; outcome = m.outcome; sent = m.sent }
+marked m = record m { cancelled = true }
 
-abbrev pub waiting : Message → Message
-waiting m = record { phase = Pending; cancelled = m.cancelled; event = m.event; snapshot = nobody; outcome = faulted Fine zeros; sent = Nothing }
+abbrev pub pending_again : Message → Message
+pending_again m = fresh_of Pending m.cancelled m.event
 
 -- the worker w cancels the message in the buffer b: unless in transit, it enters its receiver's inbox as a notice
 unfoldable pub cancelled : Plan → ℕ → ℕ → Machine → Machine
 cancelled u w b s =
     let m = at s b in
     let s₁ = lower w m.event.time (with_message b (marked m) s) in
-    elim (is_transit m.phase) [ true ↦ s₁ | false ↦ enter (home u m.event.process) b s₁ ]
+    if is_transit m.phase then s₁ else enter (home u m.event.process) b s₁
 
 unfoldable pub cancelled_all : Plan → ℕ → List ℕ → Machine → Machine
 cancelled_all u w [] s = s
@@ -165,7 +171,7 @@ cancelled_all u w (b ∷ bs) s = cancelled_all u w bs (cancelled u w b s)
 abbrev pub restored : ℕ → Machine → Machine
 restored b s =
     let m = at s b in
-    with_message b (waiting m) (with_process m.event.process m.snapshot s)
+    with_message b (pending_again m) (with_process m.event.process m.snapshot s)
 
 -- one event undone: its process as before it, its messages cancelled in sending order, itself pending
 unfoldable pub undone : Plan → ℕ → ℕ → Machine → Machine
@@ -176,6 +182,7 @@ abbrev pub past : Bool → Event → Event → Bool
 past true e f = not (earlier f e)
 past false e f = earlier e f
 
+-- a machine rolled back, how many events were undone, and how many messages were cancelled
 pub record Rolled : Type 0 where
   pub machine : Machine
   pub undone : ℕ
@@ -194,6 +201,7 @@ rolled (suc k) u w p past s = elim (latest p past s) [
       record { machine = r.machine; undone = suc r.undone; cancelled = many (at s b).sent + r.cancelled }
 ]
 
+-- all of them: no more than 256 messages are done
 abbrev pub rollback : Plan → ℕ → ℕ → (Event → Bool) → Machine → Rolled
 rollback u w p past s = rolled 256 u w p past s
 
@@ -209,6 +217,7 @@ returned l u e = Lane (l.return (side u e) (home u e.process))
 unfoldable pub freed : Lanes → Plan → ℕ → Machine → Machine
 freed l u b s = with_place b (returned l u (at s b).event) (with_message b blank s)
 
+-- a machine that absorbed, how many messages were annihilated, and what was rolled back
 pub record Absorption : Type 0 where
   pub machine : Machine
   pub annihilated : ℕ
@@ -223,50 +232,56 @@ unfoldable pub arrived : Plan → ℕ → ℕ → Machine → Absorption
 arrived u w b s =
     let m = at s b in
     let r = rollback u w m.event.process (past false m.event) s in
-    absorbed_to (with_message b (waiting m) r.machine) 0 r.undone r.cancelled
+    absorbed_to (with_message b (pending_again m) r.machine) 0 r.undone r.cancelled
 
 -- a cancelled message is annihilated; if it was done, its process is first rolled back through it
 unfoldable pub annihilated : Lanes → Plan → ℕ → ℕ → Machine → Absorption
 annihilated l u w b s =
     let m = at s b in
-    elim (is_done m.phase) [
-      | true ↦ let r = rollback u w m.event.process (past true m.event) s in
-          absorbed_to (freed l u b r.machine) 1 r.undone r.cancelled
-      | false ↦ absorbed_to (freed l u b s) 1 0 0
-    ]
+    let r = rollback u w m.event.process (past true m.event) s in
+    if is_done m.phase
+    then absorbed_to (freed l u b r.machine) 1 r.undone r.cancelled
+    else absorbed_to (freed l u b s) 1 0 0
 
+-- a worker without the oldest buffer of its inbox
 abbrev pub leaving : Worker → Worker
-leaving x = record { inbox = rest x.inbox; floor = x.floor; report = x.report }
+leaving x = record x { inbox = rest x.inbox }
 
 -- the oldest buffer leaves the inbox of the worker w
-unfoldable pub left : ℕ → Machine → Machine
-left w s = on_worker w leaving s
+unfoldable pub popped : ℕ → Machine → Machine
+popped w s = on_worker w leaving s
 
+-- the worker's oldest buffer leaves its inbox, and its message is annihilated or comes in
 unfoldable pub absorbed : Lanes → Plan → ℕ → Machine → Absorption
 absorbed l u w s = elim (first (worker s w).inbox) [
   | None ↦ absorbed_to s 0 0 0
-  | Some b ↦ elim (at s b).cancelled [ true ↦ annihilated l u w b (left w s) | false ↦ arrived u w b (left w s) ]
+  | Some b ↦ if (at s b).cancelled then annihilated l u w b (popped w s) else arrived u w b (popped w s)
 ]
 
+-- a worker at the opening of a round
 abbrev pub clearing : ℕ → Worker → Worker
 clearing end x = record { inbox = x.inbox; floor = end; report = None }
 
+-- a round opens: every floor rises to the end, and no report is in
 unfoldable pub opened : Plan → Machine → Machine
-opened u s = record { processes = s.processes; messages = s.messages; workers = map (clearing u.limits.end) s.workers; places = s.places; posted = s.posted; floor = u.limits.end; rounding = true; gvt = s.gvt }
+opened u s = record s { workers = map (clearing u.limits.end) s.workers; floor = u.limits.end; rounding = true }
 
 -- the least of t and the times of the messages that pass a test
 abbrev pub least_time : (Message → Bool) → List Message → ℕ → ℕ
 least_time ok [] t = t
 least_time ok (m ∷ ms) t = least_time ok ms (if ok m then min t m.event.time else t)
 
+-- the least of t and the times of the messages in an inbox
 abbrev pub inbox_time : List Message → List ℕ → ℕ → ℕ
 inbox_time ms [] t = t
 inbox_time ms (b ∷ bs) t = inbox_time ms bs (min t (slice_index_or ms b blank).event.time)
 
+-- what a worker reports: the least time of its floor, its pending events and its inbox, at most the end
 unfoldable pub report_of : Plan → ℕ → Machine → ℕ
 report_of u w s =
     let x = worker s w in
-    inbox_time s.messages x.inbox (least_time (λ m. is_pending m.phase && home u m.event.process == w) s.messages (min u.limits.end x.floor))
+    let t = least_time (λ m. is_pending m.phase && home u m.event.process == w) s.messages (min u.limits.end x.floor) in
+    inbox_time s.messages x.inbox t
 
 -- how many of the first k workers have not reported, and the least of t and what they reported
 abbrev pub missing : List Worker → ℕ → ℕ
@@ -279,38 +294,46 @@ least_report xs zero t = t
 least_report [] (suc k) t = t
 least_report (x ∷ xs) (suc k) t = elim x.report [ None ↦ least_report xs k t | Some r ↦ least_report xs k (min t r) ]
 
+-- a worker that has reported
 abbrev pub telling : ℕ → Worker → Worker
-telling t x = record { inbox = x.inbox; floor = x.floor; report = Some t }
+telling t x = record x { report = Some t }
 
-unfoldable pub told : Plan → ℕ → Machine → Machine
-told u w s = on_worker w (telling (report_of u w s)) s
+-- the worker w has reported
+unfoldable pub with_report : Plan → ℕ → Machine → Machine
+with_report u w s = on_worker w (telling (report_of u w s)) s
 
+-- no round is open, and GVT is t
 abbrev pub closed : ℕ → Machine → Machine
-closed t s = record { processes = s.processes; messages = s.messages; workers = s.workers; places = s.places; posted = s.posted; floor = s.floor; rounding = false; gvt = t }
+closed t s = record s { rounding = false; gvt = t }
 
 -- the last report closes the round
 unfoldable pub reported : Plan → ℕ → Machine → Machine
 reported u w s =
-    let s₁ = told u w s in
+    let s₁ = with_report u w s in
     elim (missing s₁.workers u.workers) [
       | zero ↦ closed (least_report s₁.workers u.workers s₁.floor) s₁
       | suc k ↦ s₁
     ]
 
+-- how many messages pass a test; along the list, as what is proved of it goes. std's `count_by` folds from the front
+-- with what it has counted so far, and would be no plainer
 abbrev pub counted : (Message → Bool) → List Message → ℕ
 counted ok [] = 0
 counted ok (m ∷ ms) = if ok m then suc (counted ok ms) else counted ok ms
 
+-- how many done events are earlier than GVT
 unfoldable pub remaining : Machine → ℕ
 remaining s = counted (λ m. is_done m.phase && nat_lt m.event.time s.gvt) s.messages
 
+-- a message in transit
 abbrev pub coming : Event → Message
-coming e = record { phase = Transit; cancelled = false; event = e; snapshot = nobody; outcome = faulted Fine zeros; sent = Nothing }
+coming e = fresh_of Transit false e
 
 -- the message e, drawn into the buffer b, is in transit to its receiver
 unfoldable pub sent : Plan → ℕ → Event → Machine → Machine
 sent u b e s = enter (home u e.process) b (with_place b Out (with_message b (coming e) s))
 
+-- the messages of a step, each into a buffer that was drawn for it; each lowers the sender's floor
 unfoldable pub sent_all : Plan → ℕ → List ℕ → List Event → Machine → Machine
 sent_all u w bs [] s = s
 sent_all u w [] (e ∷ es) s = s
@@ -333,20 +356,23 @@ few [] = Nothing
 few (a ∷ []) = One a
 few (a ∷ b ∷ _) = Two a b
 
+-- the message x, done
 abbrev pub finished : Process → Outcome → Few ℕ → Message → Message
-finished q o bs x = record { phase = Done; cancelled = x.cancelled; event = x.event; snapshot = q; outcome = o; sent = bs }
+finished q o bs x = done_of x.cancelled x.event q o bs
 
 -- the event in the buffer b, which did o, is done: its messages went into the buffers bs
 unfoldable pub stepped_by : Plan → ℕ → ℕ → Outcome → Few ℕ → Machine → Machine
 stepped_by u w b o bs s =
     let x = at s b in
     let q = process s x.event.process in
-    with_process x.event.process (moved o q) (with_message b (finished q o bs x) (sent_all u w (listed bs) (listed o.sends) s))
+    with_process x.event.process (process_after o q)
+    (with_message b (finished q o bs x) (sent_all u w (listed bs) (listed o.sends) s))
 
 -- the event in the buffer b is applied: its messages are drawn into the buffers bs, and it is done
 abbrev pub stepped : Meaning → Plan → ℕ → ℕ → Few ℕ → Machine → Machine
 stepped m u w b bs s = stepped_by u w b (doing m u s b) bs s
 
+-- a machine that collected, and the lines
 pub record Collected : Type 0 where
   pub machine : Machine
   pub lines : List Line
@@ -377,8 +403,10 @@ started_with u ps pl = record {
   gvt = 0;
 }
 
+-- the machine before any call, over a new pool
 unfoldable pub started : Meaning → Lanes → Plan → Machine
 started m l u = started_with u (fresh m) l.full
 
+-- the machine after n posts, with the outside's floor at t
 abbrev pub with_outside : ℕ → ℕ → Machine → Machine
-with_outside n t s = record { processes = s.processes; messages = s.messages; workers = s.workers; places = s.places; posted = n; floor = t; rounding = s.rounding; gvt = s.gvt }
+with_outside n t s = record s { posted = n; floor = t }

@@ -1,6 +1,10 @@
-// The Time Warp machine: its types, and what every call must do, as definitions.
+//! The Time Warp machine: its types, and what every call must do, as definitions.
 
 #![tactic(auto)]
 
-pub mod base;
-pub mod numbers;
+pub mod call;
+pub mod cases;
+pub mod message;
+pub mod plan;
+pub mod refusal;
+pub mod text;
