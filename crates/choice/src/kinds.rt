@@ -1,20 +1,22 @@
-// The three choices: the next event of a worker, the latest done of a process, the oldest done before a time.
+//! The three choices: the next event of a worker, the latest done of a process, the oldest done before a time.
 
 ghost use Rattle.std.specs.Prelude.{◌≡◌, ◌<◌, ◌&&◌, ◌==◌, nat_lt, slice_index};
-ghost use Rattle.sequential.specs.Events.{earlier};
-ghost use Rattle.machine.specs.declared.base.Phase.TheVariants.{Pending, Done};
-ghost use Rattle.machine.specs.Machine.{later, past, is_done, is_pending};
 ghost use Rattle.std.proofs.Common.{rules};
+ghost use Rattle.sequential.specs.Events.{earlier};
+ghost use Rattle.machine.specs.declared.message.Phase.TheVariants.{Pending, Done};
+ghost use Rattle.machine.specs.Machine.{later, past, is_done, is_pending};
 
-use crate::base::{Choice, earlier_key};
-use machine::base::Phase;
-use sequential::base::Event;
+use crate::records::Choice;
+use machine::message::Phase;
+use model::limits::PROCESSES;
+use sequential::event::Event;
 
-// Done events of a process, the latest first: those later than the mark, or the mark too.
+/// Done events of a process, the latest first: those later than the mark, or the mark too.
 #[derive(Clone, Copy)]
 pub struct Latest {
     pub process: u8,
     pub mark: Event,
+    // a flag, as the machine's `past` takes one; `is_past` alone looks at it
     pub through: bool,
 }
 
@@ -32,31 +34,31 @@ impl Choice for Latest {
     }
 
     fn fits(&self, phase: Phase, event: &Event) -> bool {
-        phase == Phase::Done
-            && event.process == self.process
-            && is_past(self.through, &self.mark, event)
+        phase == Phase::Done && event.process == self.process && self.is_past(event)
     }
 
     fn precedes(&self, a: &Event, b: &Event) -> bool {
-        earlier_key(b, a)
+        b.earlier(a)
     }
 }
 
-// The event e is later than the mark, or is the mark where a rollback goes through it.
-pub fn is_past(through: bool, mark: &Event, e: &Event) -> bool
-    ensures { result ≡ past through mark.now e.now }
-{
-    if through {
-        !earlier_key(e, mark)
-    } else {
-        earlier_key(mark, e)
+impl Latest {
+    /// The event is later than the mark, or is the mark where a rollback goes through it.
+    pub fn is_past(&self, event: &Event) -> bool
+        ensures { result ≡ past self.now.through self.now.mark event.now }
+    {
+        if self.through {
+            !event.earlier(&self.mark)
+        } else {
+            self.mark.earlier(event)
+        }
     }
 }
 
-// Pending events of a worker, the earliest first.
+/// Pending events of a worker, the earliest first.
 #[derive(Clone, Copy)]
 pub struct Next {
-    pub home: [u8; 32],
+    pub home: [u8; PROCESSES],
     pub worker: u8,
 }
 
@@ -78,11 +80,11 @@ impl Choice for Next {
     }
 
     fn precedes(&self, a: &Event, b: &Event) -> bool {
-        earlier_key(a, b)
+        a.earlier(b)
     }
 }
 
-// Done events earlier than a time, the earliest first.
+/// Done events earlier than a time, the earliest first.
 #[derive(Clone, Copy)]
 pub struct Oldest {
     pub gvt: u64,
@@ -106,6 +108,6 @@ impl Choice for Oldest {
     }
 
     fn precedes(&self, a: &Event, b: &Event) -> bool {
-        earlier_key(a, b)
+        a.earlier(b)
     }
 }

@@ -1,6 +1,6 @@
-// Choosing among the messages of the table: the least, the latest, the oldest, how many, and the least time.
+//! The records of messages, and choosing among them: the least, the latest, the oldest, how many, and the least time.
 
 #![tactic(auto)]
 
-pub mod base;
 pub mod kinds;
+pub mod records;

@@ -2,16 +2,17 @@
 use Rattle.std.proofs.Common.{ℕ, ◌≤◌, arith}
 use Rattle.std.specs.List.{AllByRecursion}
 use Rattle.model.specs.Meaning.{Meaning, listed}
-use Rattle.model.specs.declared.base.Few.{Few}
-use Rattle.model.specs.declared.base.Few.TheVariants.{Nothing, One, Two}
-use Rattle.sequential.specs.declared.base.Event.{Event}
-use Rattle.sequential.specs.declared.base.Limits.{Limits}
-use Rattle.sequential.specs.declared.base.Process.{Process}
+use Rattle.model.specs.declared.reaction.Few.{Few}
+use Rattle.model.specs.declared.reaction.Few.TheVariants.{Nothing, One, Two}
+use Rattle.sequential.specs.declared.event.Event.{Event}
+use Rattle.sequential.specs.declared.limits.Limits.{Limits}
+use Rattle.sequential.specs.declared.event.Process.{Process}
 use Rattle.sequential.specs.Events.{applied}
 use Rattle.sequential.proofs.Sends.{Fits, applied-sends}
 use Rattle.tables.specs.Pulls.{Aimed}
 
-fit_aimed : (size end : ℕ) (e : Event) (fs : Few Event) → size ≤ 32 → AllByRecursion (Fits size end e) (listed fs) → Aimed fs
+fit_aimed : (size end : ℕ) (e : Event) (fs : Few Event) → size ≤ 32 → AllByRecursion (Fits size end e) (listed fs) →
+    Aimed fs
 fit_aimed size end e Nothing h a = tt
 fit_aimed size end e (One f) h a = let p = a.0.receiver in omega arith
 fit_aimed size end e (Two f k) h a = let p = a.0.receiver in let q = a.1.0.receiver in (omega arith, omega arith)

@@ -1,3 +1,3 @@
-mod Rows
+mod LowHomes
 mod Rounds
 pub mod Applied

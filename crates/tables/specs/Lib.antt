@@ -1,4 +1,4 @@
 pub mod Meaning
 pub mod Takes
 pub mod Pulls
-pub mod Posts
+pub mod Reports

@@ -1,15 +1,15 @@
 -- What collecting one line leaves to the pool, and what the sends of a step must be.
 use Rattle.std.specs.Prelude.{◌≡◌, ℕ, ◌<◌, List, Some, None, Option, slice_set}
-use Rattle.model.specs.declared.base.Few.{Few}
-use Rattle.model.specs.declared.base.Few.TheVariants.{Nothing, One, Two}
+use Rattle.model.specs.declared.reaction.Few.{Few}
+use Rattle.model.specs.declared.reaction.Few.TheVariants.{Nothing, One, Two}
 use Rattle.pool.specs.Lanes.{Lanes}
-use Rattle.pool.specs.declared.base.Place.{Place}
+use Rattle.pool.specs.declared.place.Place.{Place}
 use Rattle.sequential.specs.Events.{line_of}
-use Rattle.sequential.specs.declared.base.Event.{Event}
-use Rattle.sequential.specs.declared.base.Line.{Line}
-use Rattle.machine.specs.declared.base.Plan.{Plan}
+use Rattle.sequential.specs.declared.event.Event.{Event}
+use Rattle.sequential.specs.declared.event.Line.{Line}
+use Rattle.machine.specs.declared.plan.Plan.{Plan}
 use Rattle.machine.specs.Machine.{oldest, freed, returned, at}
-use Rattle.tables.specs.declared.table.Tables.{Tables}
+use Rattle.tables.specs.declared.Tables.{Tables}
 use Rattle.tables.specs.Meaning.{machine_of}
 
 -- the oldest done event earlier than GVT, if any, is taken out as a line

@@ -1,33 +1,54 @@
-// The worker of a process, and the side that a message comes from.
+//! Workers by their numbers: a call's, a process's, and the side that a message comes from.
 
-ghost use Rattle.std.specs.Prelude.{◌≡◌, ◌<◌};
+ghost use Rattle.std.specs.Prelude.{◌≡◌, ◌<◌, ◌≤◌, MatchOption};
 ghost use Rattle.machine.specs.Machine.{home as home_of, side as side_of};
 
-use machine::base::Plan;
-use sequential::base::Event;
+use machine::plan::Plan;
+use pool::OUTSIDE_SIDE;
+use sequential::event::Event;
 
-// The sender of what is posted from outside.
-pub(crate) const OUTSIDE: u8 = 255;
-
-// The side that it comes from.
-const OUTSIDE_SIDE: u8 = 8;
-
-// The worker of a process, 0 where there is no such process.
-pub fn home_of(u: &Plan, p: u8) -> u8
-    ensures home { result ≡ home_of u.now p }
-    ensures eight { result < 8 }
-{
-    if p < 32 { u.home[p as usize] } else { 0 }
+/// The number of one of the eight workers that the tables have. A plan may have fewer: `of` asks it.
+#[derive(Clone, Copy)]
+pub struct WorkerId {
+    pub index: u8,
+    ghost low: { index < 8 },
 }
 
-// The side that a message comes from: its sender's worker, or the outside.
-pub fn side_of(u: &Plan, e: &Event) -> u8
-    ensures side { result ≡ side_of u.now e.now }
+impl WorkerId {
+    /// The worker of this number, if the plan has one.
+    pub fn of(plan: &Plan, number: u64) -> Option<WorkerId>
+        ensures { MatchOption result (plan.now.workers ≤ number)
+            (λ w. (w.index ≡ number) × (number < plan.now.workers)) }
+    {
+        if number < plan.workers as u64 {
+            Some(WorkerId {
+                index: number as u8,
+            })
+        } else {
+            None
+        }
+    }
+}
+
+/// The worker of a process, 0 where there is no such process.
+// 0 and no `Option`, as the definition has it: the events in the tables are of processes that have a worker.
+#[tactic(auto, using(crate::proofs::LowHomes::home_low))]
+pub fn home_of(plan: &Plan, process: u8) -> WorkerId
+    ensures { result.index ≡ home_of plan.now process }
+{
+    WorkerId {
+        index: plan.home.get(process as usize).copied().unwrap_or(0),
+    }
+}
+
+/// The side that a message comes from: its sender's worker, or the outside.
+pub fn side_of(plan: &Plan, event: &Event) -> u8
+    ensures side { result ≡ side_of plan.now event.now }
     ensures nine { result < 9 }
 {
-    if e.sender == OUTSIDE {
+    if event.sender == Event::OUTSIDE {
         OUTSIDE_SIDE
     } else {
-        home_of(u, e.sender)
+        home_of(plan, event.sender).index
     }
 }

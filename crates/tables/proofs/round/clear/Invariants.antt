@@ -1,7 +1,8 @@
-use Rattle.std.proofs.Common.{◌≡◌, ◌++◌, map, length, take, drop}
+use Rattle.std.proofs.Common.{◌≡◌, ◌++◌, map, take, drop}
 use Rattle.machine.specs.Machine.{clearing}
-use Rattle.tables.specs.Meaning.{worker_of}
 use Rattle.tables.proofs.round.clear.Given as goal
 
-abbrev pub invariant-loop-j : goal.invariant-loop-j
-invariant-loop-j l = (map worker_of l.rows ≡ map (clearing l.end) (take l.j (map worker_of l.initial.rows)) ++ drop l.j (map worker_of l.initial.rows)) × (length l.rows ≡ 8)
+-- the workers so far are cleared, and the others are as they were
+abbrev pub invariant-loop-worker : goal.invariant-loop-worker
+invariant-loop-worker l =
+    l.workers ≡ map (clearing l.end) (take l.worker-index l.initial.workers) ++ drop l.worker-index l.initial.workers
