@@ -1,11 +1,11 @@
 pub mod Does
-mod Refuses
 mod Enough
 mod Posts
-mod Returns
 mod Absorbs
 mod Few
 mod Steps
 mod Collects
 pub mod Offers
+pub mod Reached
 mod Groups
+pub mod Goings

@@ -1,3 +1,5 @@
 pub mod World
+pub mod Running
 pub mod Draws
+pub mod Fills
 pub mod Runs

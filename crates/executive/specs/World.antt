@@ -2,20 +2,17 @@
 use Rattle.std.specs.Prelude.{◌≡◌, ℕ, Bool, true, ◌&&◌, List, [], ◌∷◌, Some, Ok, Err, Option, Result, nat_le, slice_set}
 use Rattle.model.specs.Meaning.{Meaning}
 use Rattle.pool.specs.Lanes.{Lanes, place_at}
-use Rattle.pool.specs.declared.base.Place.{Place}
-use Rattle.pool.specs.declared.base.Place.TheVariants.{Out}
+use Rattle.pool.specs.declared.place.Place.TheVariants.{Out}
 use Rattle.sequential.specs.Events.{cap_fits, end_fits}
-use Rattle.sequential.specs.declared.base.Line.{Line}
-use Rattle.machine.specs.declared.base.Answer.{Answer}
-use Rattle.machine.specs.declared.base.Answer.TheVariants.{Refused, Posted, Absorbed, Stepped, Opened, Told}
-use Rattle.machine.specs.declared.base.Call.{Call}
-use Rattle.machine.specs.declared.base.Plan.{Plan}
-use Rattle.machine.specs.declared.base.Refusal.{Refusal}
-use Rattle.machine.specs.declared.base.Refusal.TheVariants.{NoProcess, NoWorker}
+use Rattle.sequential.specs.declared.event.Line.{Line}
+use Rattle.machine.specs.declared.call.Answer.{Answer}
+use Rattle.machine.specs.declared.call.Answer.TheVariants.{Refused, Posted, Absorbed, Stepped, Opened, Told}
+use Rattle.machine.specs.declared.plan.Plan.{Plan}
+use Rattle.machine.specs.declared.refusal.Refusal.{Refusal}
+use Rattle.machine.specs.declared.refusal.Refusal.TheVariants.{NoProcess, NoWorker}
 use Rattle.machine.specs.Machine.{Machine, at, first, is_done, worker}
-use Rattle.machine.specs.Calls.{World, Does, first_refusal}
-use Rattle.tables.specs.declared.table.Tables.{Tables}
-use Rattle.tables.specs.Meaning.{machine_of}
+use Rattle.machine.specs.Calls.{World, Run, Transcript, first_refusal}
+use Rattle.law.specs.Law.{start}
 
 -- a model, a pool's lanes and a plan make a world
 abbrev pub world_of : Meaning → Lanes → Plan → World
@@ -40,10 +37,14 @@ abbrev pub placing : Meaning → Plan → ℕ → ℕ → Option Refusal
 placing m u p w = first_refusal ((nat_le m.size p, NoProcess) ∷ (nat_le u.workers w, NoWorker) ∷ [])
 
 -- the plan with the process on the worker
-pub record Moved (u v : Plan) (process worker : ℕ) : Type 0 where
+pub record Reassigned (u v : Plan) (process worker : ℕ) : Type 0 where
   pub limits : v.limits ≡ u.limits
   pub workers : v.workers ≡ u.workers
   pub home : v.home ≡ slice_set u.home process worker
+
+-- calls made from the start lead to the machine
+abbrev pub IsReached : World → Machine → Type 0
+IsReached W s = (r : Transcript) × Run W (start W) r s
 
 -- the buffers of done events are out of the pool
 abbrev pub DonesLent : Machine → Type 0
@@ -75,7 +76,3 @@ round_answer (Err r) = Refused r
 abbrev pub report_answer : Result (ℕ × ℕ) Refusal → Answer (List Line)
 report_answer (Ok x) = Told x.0 x.1
 report_answer (Err r) = Refused r
-
--- the call, made in a world where tables and places were t and pl, answers a and leaves t' and pl', as the machine does
-abbrev pub Makes : Meaning → Lanes → Plan → Tables → List Place → Call → Answer (List Line) → Tables → List Place → Type 0
-Makes m l u t pl c a t' pl' = Does (world_of m l u) (machine_of t pl) c a (machine_of t' pl')

@@ -1,33 +1,15 @@
-// Buffers run out, and come back by collecting.
+//! Buffers run out, and come back by collecting.
 
 use crate::fixture::{two_ports, whole_round};
-use executive::base::Executive;
-use machine::base::Refusal;
-use model::base::State;
+use executive::Executive;
+use machine::refusal::Refusal;
 use model::switch::Switch;
-use pool::base::Pool;
+use pool::Pool;
 use pool::common::CommonPool;
 use pool::receiver::ReceiverPool;
-use sequential::base::{Event, Line, Verdict};
+use sequential::event::Line;
 use std::process::Abort;
 use std::test::Fail;
-
-const BLANK: Line = Line {
-    event: Event {
-        time: 0,
-        process: 0,
-        sender: 0,
-        number: 0,
-        payload: 0,
-    },
-    verdict: Verdict::Fine,
-    state: State {
-        w0: 0,
-        w1: 0,
-        w2: 0,
-        w3: 0,
-    },
-};
 
 // Posts so many cells to port 0, the first at 10, the rest at 20.
 fn fill<P: Pool>(executive: &mut Executive<Switch, P>, cells: u64) -> Result<(), Refusal> {
@@ -43,7 +25,7 @@ fn free_one<P: Pool>(rt: &impl Abort, executive: &mut Executive<Switch, P>) {
     assert_eq!(rt; executive.absorb(0), Ok((0, 0, 0)));
     assert_eq!(rt; executive.step(0), Ok((10, 0, 0)));
     assert_eq!(rt; whole_round(executive), Ok(20));
-    assert_eq!(rt; executive.collect(&mut [BLANK; 4]), (1, 0));
+    assert_eq!(rt; executive.collect(&mut [Line::EMPTY; 4]), (1, 0));
 }
 
 #[test]

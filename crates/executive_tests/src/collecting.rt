@@ -1,11 +1,11 @@
-// Collecting into the caller's list.
+//! Collecting into the caller's list.
 
 use crate::fixture::{two_ports, whole_round};
-use executive::base::Executive;
-use model::base::State;
+use executive::Executive;
+use model::state::State;
 use model::switch::Switch;
 use pool::common::CommonPool;
-use sequential::base::{Event, Line, Verdict};
+use sequential::event::{Event, Line, Verdict};
 use std::process::Abort;
 use std::test::Fail;
 

@@ -1,14 +1,19 @@
-// Small switches to test on.
+//! Small switches to test on.
 
-use executive::base::{Executive, Setup};
-use machine::base::Refusal;
+use executive::{Executive, Setup};
+use machine::refusal::Refusal;
 use model::switch::Switch;
-use pool::base::Pool;
+use pool::Pool;
 use std::test::Fail;
+
+// A setup of two ports with a service time of 3, as it comes.
+pub fn fresh<P: Pool>() -> Result<Setup<Switch, P>, Fail> {
+    Ok(Setup::fresh(Switch::new(2, 3)?))
+}
 
 // Two ports with a service time of 3 on two workers, port p on worker p; the run ends at 100.
 pub fn two_ports<P: Pool + Drop>(most: u64) -> Result<Executive<Switch, P>, Fail> {
-    let mut setup = Setup::fresh(Switch::new(2, 3)?);
+    let mut setup = fresh()?;
     setup.set(100, most, 2)?;
     setup.place(1, 1)?;
     Ok(setup.start())

@@ -1,14 +1,15 @@
-// Some hundred calls, whose lines are held against the sequential run's.
+//! Some hundred calls, whose lines are held against the sequential run's.
 
-use executive::base::{Executive, Setup};
-use machine::base::Refusal;
-use model::base::{Model, State};
+use executive::{Executive, Setup};
+use machine::refusal::Refusal;
+use model::Model;
 use model::phold::Phold;
 use model::switch::Switch;
-use pool::base::Pool;
+use pool::Pool;
 use pool::common::CommonPool;
 use pool::receiver::ReceiverPool;
-use sequential::base::{Event, Limits, Line, Post, Verdict};
+use sequential::event::{Line, Post};
+use sequential::limits::Limits;
 use sequential::run::run;
 use std::process::Abort;
 use std::test::Fail;
@@ -21,41 +22,15 @@ const CAP: u64 = 1000;
 
 const TURNS: u64 = 100;
 
-const BLANK: Line = Line {
-    event: Event {
-        time: 0,
-        process: 0,
-        sender: 0,
-        number: 0,
-        payload: 0,
-    },
-    verdict: Verdict::Fine,
-    state: State {
-        w0: 0,
-        w1: 0,
-        w2: 0,
-        w3: 0,
-    },
-};
-
-// A message for a process at a time.
-fn at(process: u64, time: u64, payload: u64) -> Post {
-    Post {
-        process,
-        time,
-        payload,
-    }
-}
-
-// What is posted, in order.
+// What is posted, in order: process, time, payload.
 fn posts() -> [Post; 6] {
     [
-        at(0, 10, 9),
-        at(1, 10, 7),
-        at(2, 300, 5),
-        at(3, 11, 8),
-        at(4, 12, 6),
-        at(0, 12, 3),
+        Post::new(0, 10, 9),
+        Post::new(1, 10, 7),
+        Post::new(2, 300, 5),
+        Post::new(3, 11, 8),
+        Post::new(4, 12, 6),
+        Post::new(0, 12, 3),
     ]
 }
 
@@ -86,17 +61,6 @@ fn turn<M: Model, P: Pool>(executive: &mut Executive<M, P>) -> Result<bool, Refu
     Ok(undone)
 }
 
-// The lines are the next ones of those expected, of which `found` came before: how many came by now.
-fn compare(rt: &impl Abort, lines: &[Line], expected: &[Line], found: usize) -> usize {
-    let mut next = found;
-    for i in 0..lines.len() {
-        assert!(rt; next < expected.len());
-        assert_eq!(rt; lines[i], expected[next]);
-        next += 1;
-    }
-    next
-}
-
 // Every line collected is the next one of the sequential run, none is left out, and some event was rolled back.
 fn follows<M: Model, P: Pool>(
     rt: &impl Abort,
@@ -107,20 +71,25 @@ fn follows<M: Model, P: Pool>(
         executive.post(post.process, post.time, post.payload)?;
     }
     let mut undone = false;
-    let mut found = 0;
+    let mut rest = expected;
     for _ in 0..TURNS {
         let back = turn(executive)?;
         undone = undone || back;
-        let mut lines = [BLANK; 8];
+        let mut lines = [Line::EMPTY; 8];
         let (written, _) = executive.collect(&mut lines);
-        assert!(rt; written <= 8);
-        found = compare(rt, &lines[..written], expected, found);
+        assert!(rt; written <= 8 && written <= rest.len());
+        let (next, later) = rest.split_at(written);
+        for (line, wanted) in lines.iter().zip(next) {
+            assert_eq!(rt; *line, *wanted);
+        }
+        rest = later;
     }
     assert!(rt; undone, "no event was rolled back");
-    assert_eq!(rt; found, expected.len());
+    assert_eq!(rt; rest.len(), 0);
     Ok(())
 }
 
+// A test for each of two pairs of a model and a pool, so that each fails by its name; `follows` is what they share.
 #[test]
 fn a_switch_follows_the_sequential_run(rt: HostRuntime) -> Result<(), Fail> {
     let model = Switch::new(5, 4)?;

@@ -1,8 +1,9 @@
-// Lists of calls: two groups in their order, and one alone.
+//! Lists of calls: two groups in their order, and one alone.
 
-use executive::base::Setup;
+use crate::fixture::fresh;
+use executive::Setup;
 use executive::runs::{run_calls, run_groups};
-use machine::base::{Answer, Call};
+use machine::call::{Answer, Call};
 use model::switch::Switch;
 use pool::common::CommonPool;
 use std::test::Fail;
@@ -18,13 +19,10 @@ const SERVED: [Call; 5] = [
 
 const COLLECTED: [Call; 2] = [Call::Collect(4), Call::Post(1, 99, 0)];
 
-fn one_worker() -> Result<Setup<Switch, CommonPool>, Fail> {
-    Ok(Setup::fresh(Switch::new(2, 3)?))
-}
-
 #[test]
 fn the_first_group_comes_first(rt: HostRuntime) -> Result<(), Fail> {
-    let (first, second) = run_groups(rt.alloc(), one_worker()?, &SERVED, &COLLECTED)?;
+    let setup: Setup<Switch, CommonPool> = fresh()?;
+    let (first, second) = run_groups(rt.alloc(), setup, &SERVED, &COLLECTED)?;
     assert_eq!(rt; first.answers.len(), 5);
     assert_eq!(rt; (first.gvt, first.out), (1000, 1));
     assert_eq!(rt; (second.gvt, second.out), (1000, 0));
@@ -36,7 +34,8 @@ fn the_first_group_comes_first(rt: HostRuntime) -> Result<(), Fail> {
 
 #[test]
 fn calls_alone_are_answered(rt: HostRuntime) -> Result<(), Fail> {
-    let group = run_calls(rt.alloc(), one_worker()?, &COLLECTED)?;
+    let setup: Setup<Switch, CommonPool> = fresh()?;
+    let group = run_calls(rt.alloc(), setup, &COLLECTED)?;
     assert_eq!(rt; (group.gvt, group.out), (0, 1));
     assert!(rt; group.answers.len() == 2);
     assert!(rt; matches!(group.answers[1], Answer::Posted(0)));

@@ -1,4 +1,4 @@
-// Tests of the executive: setting up, every refusal, buffers, collecting, and runs beside the sequential run.
+//! Tests of the executive: setting up, every refusal, buffers, collecting, and runs beside the sequential run.
 
 #![tactic(auto)]
 

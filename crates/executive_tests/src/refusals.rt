@@ -1,8 +1,8 @@
-// Every refusal of a running executive, and which of two comes first.
+//! Every refusal of a running executive, and which of two comes first.
 
 use crate::fixture::{two_ports, whole_round};
-use executive::base::Executive;
-use machine::base::Refusal;
+use executive::Executive;
+use machine::refusal::Refusal;
 use model::switch::Switch;
 use pool::common::CommonPool;
 use std::test::Fail;

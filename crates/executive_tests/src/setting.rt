@@ -1,18 +1,15 @@
-// Setting up: limits, refusals, and where the processes are.
+//! Setting up: limits, refusals, and where the processes are.
 
-use executive::base::Setup;
-use machine::base::Refusal;
+use crate::fixture::fresh;
+use executive::Setup;
+use machine::refusal::Refusal;
 use model::switch::Switch;
 use pool::common::CommonPool;
 use std::test::Fail;
 
-fn fresh() -> Result<Setup<Switch, CommonPool>, Fail> {
-    Ok(Setup::fresh(Switch::new(2, 3)?))
-}
-
 #[test]
 fn a_setting_outside_the_limits_is_refused(rt: HostRuntime) -> Result<(), Fail> {
-    let mut setup = fresh()?;
+    let mut setup: Setup<Switch, CommonPool> = fresh()?;
     assert_eq!(rt; setup.set(0, 1, 1), Err(Refusal::OutsideLimits));
     assert_eq!(rt;
         setup.set(0x100_0000_0001, 1, 1),
@@ -29,7 +26,7 @@ fn a_setting_outside_the_limits_is_refused(rt: HostRuntime) -> Result<(), Fail> 
 
 #[test]
 fn a_refused_setting_changes_nothing(rt: HostRuntime) -> Result<(), Fail> {
-    let mut setup = fresh()?;
+    let mut setup: Setup<Switch, CommonPool> = fresh()?;
     assert_eq!(rt; setup.set(5, 5, 9), Err(Refusal::OutsideLimits));
     assert_eq!(rt; setup.place(2, 0), Err(Refusal::NoProcess));
     assert_eq!(rt; setup.place(0, 1), Err(Refusal::NoWorker));
@@ -44,7 +41,7 @@ fn a_refused_setting_changes_nothing(rt: HostRuntime) -> Result<(), Fail> {
 
 #[test]
 fn setting_again_puts_all_on_worker_0(rt: HostRuntime) -> Result<(), Fail> {
-    let mut setup = fresh()?;
+    let mut setup: Setup<Switch, CommonPool> = fresh()?;
     assert_eq!(rt; setup.set(100, 100, 2), Ok(()));
     assert_eq!(rt; setup.place(1, 1), Ok(()));
     assert_eq!(rt; setup.set(100, 100, 2), Ok(()));
