@@ -1,41 +1,41 @@
 -- Where a text is cut into lines.
-use Rattle.std.proofs.Common.{◌≡◌, ℕ, zero, suc, ◌+◌, ◌-◌, ◌<◌, ◌≤◌, List, [], ◌∷◌, length, get_or, take, drop, sym, ap, ◌∙◌, inl, inr, arith}
-use Rattle.std.proofs.lemmas.List.{drop_all, drop-drop, get_or-drop, length-drop, take_all}
-use Rattle.std.proofs.lemmas.Bool.{eq-eqb, ne_eqb, cases_lt}
+use Rattle.std.proofs.Common.{◌≡◌, ℕ, zero, suc, ◌+◌, ◌<◌, true, false, eqb, All, List, [], ◌∷◌, length, get_or, take}
+use Rattle.std.proofs.Common.{drop, ap, ◌∙◌, take_all, arith}
+use Rattle.std.proofs.lemmas.List.{drop_all}
 use Rattle.script.specs.Lines.{lines_of}
 
 -- the first line feed ends the first line
-pub Cut-feed : (xs : List ℕ) (n : ℕ) → n < length xs → ((k : ℕ) → k < n → get_or xs k 0 ≡ 10 → ⊥) → get_or xs n 0 ≡ 10 → lines_of xs ≡ take (suc n) xs ∷ lines_of (drop (suc n) xs)
-Cut-feed [] n h f e = let z : ⊥ = omega arith in absurd z
-Cut-feed (x ∷ xs) zero h f e = rw (eq-eqb x 10 e)
-Cut-feed (x ∷ xs) (suc n) h f e = rw (ne_eqb x 10 (f 0 (omega arith)), Cut-feed xs n (omega arith) (λ k l. f (suc k) (omega arith)) e)
+lines_of-feed : (xs : List ℕ) (n : ℕ) → n < length xs → ((k : ℕ) → k < n → eqb (get_or xs k 0) 10 ≡ false) →
+    eqb (get_or xs n 0) 10 ≡ true → lines_of xs ≡ take (suc n) xs ∷ lines_of (drop (suc n) xs)
+lines_of-feed [] n h f e = let z : ⊥ = omega arith in absurd z
+lines_of-feed (x ∷ xs) zero h f e = rw e
+lines_of-feed (x ∷ xs) (suc n) h f e =
+    rw (f 0 (omega arith), lines_of-feed xs n (omega arith) (λ k l. f (suc k) (omega arith)) e)
 
 -- with no line feed, all is one line
-pub Cut-none : (xs : List ℕ) → 0 < length xs → ((k : ℕ) → k < length xs → get_or xs k 0 ≡ 10 → ⊥) → lines_of xs ≡ xs ∷ []
-Cut-none [] h f = let z : ⊥ = omega arith in absurd z
-Cut-none (x ∷ []) h f = rw (ne_eqb x 10 (f 0 (omega arith)))
-Cut-none (x ∷ y ∷ ys) h f = rw (ne_eqb x 10 (f 0 (omega arith)), Cut-none (y ∷ ys) (omega arith) (λ k l. f (suc k) (omega arith)))
+lines_of-plain : (xs : List ℕ) → 0 < length xs → ((k : ℕ) → k < length xs → eqb (get_or xs k 0) 10 ≡ false) →
+    lines_of xs ≡ xs ∷ []
+lines_of-plain [] h f = let z : ⊥ = omega arith in absurd z
+lines_of-plain (x ∷ []) h f = rw (f 0 (omega arith))
+lines_of-plain (x ∷ y ∷ ys) h f =
+    rw (f 0 (omega arith), lines_of-plain (y ∷ ys) (omega arith) (λ k l. f (suc k) (omega arith)))
 
--- the same from a place in the text on
-pub Cut-at : (xs : List ℕ) (at i : ℕ) → at ≤ i → i < length xs → ((k : ℕ) → at ≤ k → k < i → get_or xs k 0 ≡ 10 → ⊥) → get_or xs i 0 ≡ 10 → lines_of (drop at xs) ≡ take (i + 1 - at) (drop at xs) ∷ lines_of (drop (i + 1) xs)
-Cut-at xs at i a l f e =
-    let n : suc (i - at) ≡ i + 1 - at = omega arith in
-    let m : at + (i + 1 - at) ≡ i + 1 = omega arith in
-    let j : at + (i - at) ≡ i = omega arith in
-    let c = Cut-feed (drop at xs) (i - at) (rw length-drop (omega arith)) (λ k h g. f (at + k) (omega arith) (omega arith) (sym (get_or-drop at xs k 0) ∙ g)) (get_or-drop at xs (i - at) 0 ∙ ap (λ k. get_or xs k 0) j ∙ e) in
-    c ∙ rw (n, drop-drop, m)
+-- the first line, and the lines behind it
+abbrev pub FirstLine : List ℕ → List ℕ → List ℕ → Type 0
+FirstLine xs line others = (line ≡ get_or (lines_of xs) 0 []) × (lines_of others ≡ drop 1 (lines_of xs))
 
-pub Cut-end : (xs : List ℕ) (at : ℕ) → at < length xs → ((k : ℕ) → at ≤ k → k < length xs → get_or xs k 0 ≡ 10 → ⊥) → lines_of (drop at xs) ≡ take (length xs - at) (drop at xs) ∷ lines_of (drop (length xs) xs)
-Cut-end xs at l f =
-    let c = Cut-none (drop at xs) (rw length-drop (omega arith)) (λ k h g. f (at + k) (omega arith) (omega (arith, length-drop at xs)) (sym (get_or-drop at xs k 0) ∙ g)) in
-    c ∙ rw (drop_all (length xs) xs (omega arith), take_all (length xs - at) (drop at xs) (rw length-drop (omega arith)))
+pub FirstLine-feed : (xs line others : List ℕ) (n : ℕ) → n < length xs →
+    ((k : ℕ) → k < n → eqb (get_or xs k 0) 10 ≡ false) → eqb (get_or xs n 0) 10 ≡ true → line ≡ take (n + 1) xs →
+    others ≡ drop (n + 1) xs → FirstLine xs line others
+FirstLine-feed xs line others n l below at front back =
+    let e = lines_of-feed xs n l below at in
+    let one : n + 1 ≡ suc n = omega arith in
+    (front ∙ rw (e, one), rw (e, back, one))
 
--- the first line from a place on, which may be missing
-pub first_line : (xs : List ℕ) (at r : ℕ) → at ≤ r → r ≤ length xs → (at < length xs → lines_of (drop at xs) ≡ take (r - at) (drop at xs) ∷ lines_of (drop r xs)) → get_or (lines_of (drop at xs)) 0 [] ≡ take (r - at) (drop at xs)
-first_line xs at r a b f =
-    elim (cases_lt at (length xs)) [ inl h ↦ ap (λ ls. get_or ls 0 []) (f h) | inr g ↦ (let z : r - at ≡ 0 = omega arith in rw (drop_all at xs g, z)) ]
-
--- and the lines behind it
-pub later-lines : (xs : List ℕ) (at r : ℕ) → at ≤ r → r ≤ length xs → (at < length xs → lines_of (drop at xs) ≡ take (r - at) (drop at xs) ∷ lines_of (drop r xs)) → drop 1 (lines_of (drop at xs)) ≡ lines_of (drop r xs)
-later-lines xs at r a b f =
-    elim (cases_lt at (length xs)) [ inl h ↦ ap (drop 1) (f h) | inr g ↦ rw (drop_all at xs g, drop_all r xs (omega arith)) ]
+pub FirstLine-plain : (xs line others : List ℕ) → All (λ b. eqb b 10 ≡ false) xs → line ≡ take (length xs) xs →
+    others ≡ drop (length xs) xs → FirstLine xs line others
+FirstLine-plain [] line others all front back = (front, ap lines_of back)
+FirstLine-plain (x ∷ xs) line others all front back =
+    let e = lines_of-plain (x ∷ xs) (omega arith) (λ k l. all k 0 l) in
+    let none : drop (length (x ∷ xs)) (x ∷ xs) ≡ [] = drop_all (length (x ∷ xs)) (x ∷ xs) (omega arith) in
+    (front ∙ rw (e, take_all (length (x ∷ xs)) (x ∷ xs) (omega arith)), rw (e, back, none))

@@ -2,10 +2,9 @@ mod Backs
 mod Cuts
 mod Exact
 mod Figures
-mod Items
-mod Joins
-mod Leaves
+mod Plays
+mod Prefixes
 mod Readings
 mod Samples
+mod Texts
 mod Whole
-mod Plays

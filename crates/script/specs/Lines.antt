@@ -1,34 +1,32 @@
 -- What the lines of a script mean, one by one.
-use Rattle.std.specs.Prelude.{ℕ, Bool, false, if◌then◌else◌, ◌&&◌, List, [], ◌∷◌, length, Some, None, codes, Option, ◌==◌, nat_le}
-use Rattle.machine.specs.declared.base.Call.TheVariants as call
-use Rattle.script.specs.declared.base.Heading.{Heading}
-use Rattle.script.specs.declared.base.Item.{Item}
-use Rattle.script.specs.declared.base.Item.TheVariants as item
-use Rattle.script.specs.declared.base.ModelKind.{ModelKind}
-use Rattle.script.specs.declared.base.ModelKind.TheVariants.{Switch, Phold}
-use Rattle.script.specs.declared.base.PoolKind.{PoolKind}
-use Rattle.script.specs.declared.base.PoolKind.TheVariants.{Common, Receiver}
-use Rattle.script.specs.declared.base.Word.{Word}
-use Rattle.script.specs.declared.base.Word.TheVariants.{Place, Post, Absorb, Step, Round, Report, Collect}
-use Rattle.script.specs.Fields.{and_then, if_found, or_else, after, named, spaced_of, ended, three_of}
-
--- the byte joins the first of the lines
-abbrev pub joins : ℕ → List (List ℕ) → List (List ℕ)
-joins b [] = (b ∷ []) ∷ []
-joins b (l ∷ ls) = (b ∷ l) ∷ ls
+use Rattle.std.specs.Prelude.{ℕ, Bool, false, if◌then◌else◌, ◌&&◌, List, [], ◌∷◌, length, Some, codes, Option, ◌==◌}
+use Rattle.std.specs.Prelude.{nat_le}
+use Rattle.std.specs.List.{onto_first}
+use Rattle.std.specs.Option.{option_map_or}
+use Rattle.machine.specs.declared.call.Call.TheVariants as call
+use Rattle.script.specs.declared.heading.Heading.{Heading}
+use Rattle.script.specs.declared.item.Item.{Item}
+use Rattle.script.specs.declared.item.Item.TheVariants as item
+use Rattle.script.specs.declared.heading.ModelKind.{ModelKind}
+use Rattle.script.specs.declared.heading.ModelKind.TheVariants.{Switch, Phold}
+use Rattle.script.specs.declared.heading.PoolKind.{PoolKind}
+use Rattle.script.specs.declared.heading.PoolKind.TheVariants.{Common, Receiver}
+use Rattle.script.specs.declared.item.Word.{Word}
+use Rattle.script.specs.declared.item.Word.TheVariants.{Place, Post, Absorb, Step, Round, Report, Collect}
+use Rattle.script.specs.Fields.{◌>>=◌, ◌<|>◌, provided, rest_after, named, spaced_of, ended, three_of}
 
 -- the lines of a text, each with the line feed that ends it; only the last may lack one
 abbrev pub lines_of : List ℕ → List (List ℕ)
 lines_of [] = []
-lines_of (b ∷ bs) = if b == 10 then (b ∷ []) ∷ lines_of bs else joins b (lines_of bs)
+lines_of (b ∷ bs) = if b == 10 then (b ∷ []) ∷ lines_of bs else onto_first b (lines_of bs)
 
 -- a line has at most 80 bytes before its line feed
-abbrev pub short : List ℕ → Bool
-short line = nat_le (length line) 81
+abbrev pub fits_line : List ℕ → Bool
+fits_line line = nat_le (length line) 81
 
 -- whether the line is this text; the two texts below are short
 abbrev pub is_text : List ℕ → List ℕ → Bool
-is_text text line = if_found (after text line) false ended
+is_text text line = option_map_or ended (rest_after text line) false
 
 -- the first line
 abbrev pub heading_names : List ℕ
@@ -40,26 +38,35 @@ call_names = codes "call a b c"
 
 -- the model's word
 abbrev pub model_of : List ℕ → Option (ModelKind × List ℕ)
-model_of bs = or_else (named (codes "switch") Switch bs) (named (codes "phold") Phold bs)
+model_of bs = named (codes "switch") Switch bs <|> named (codes "phold") Phold bs
 
 -- the pool's word, behind one space
 abbrev pub pool_of : List ℕ → Option (PoolKind × List ℕ)
-pool_of bs = or_else (named (codes " common") Common bs) (named (codes " receiver") Receiver bs)
+pool_of bs = do
+  rest ← rest_after (codes " ") bs
+  named (codes "common") Common rest <|> named (codes "receiver") Receiver rest
 
 -- the second line: model, size, setting, pool, end, cap and workers
 abbrev pub heading_of : List ℕ → Option Heading
-heading_of line =
-    if short line then and_then (model_of line) (λ m. and_then (spaced_of m.1) (λ s. and_then (spaced_of s.1) (λ x. and_then (pool_of x.1) (λ p. and_then (three_of p.1) (λ t. Some record { model = m.0; size = s.0; setting = x.0; pool = p.0; end = t.0; most = t.1; workers = t.2 }))))) else None
+heading_of line = do
+  l ← provided (fits_line line) line
+  m ← model_of l
+  s ← spaced_of m.1
+  x ← spaced_of s.1
+  p ← pool_of x.1
+  t ← three_of p.1
+  Some record { model = m.0; size = s.0; setting = x.0; pool = p.0; end = t.0; most = t.1; workers = t.2 }
 
 -- the word of a further line
 abbrev pub word_of : List ℕ → Option (Word × List ℕ)
 word_of bs =
-    or_else (named (codes "place") Place bs) (or_else (named (codes "post") Post bs) (or_else (named (codes "absorb") Absorb bs) (or_else (named (codes "step") Step bs)
-    (or_else (named (codes "round") Round bs) (or_else (named (codes "report") Report bs) (named (codes "collect") Collect bs))))))
-
--- where the test holds
-abbrev pub provided : {A : Type 0} → Bool → A → Option A
-provided ok x = if ok then Some x else None
+    named (codes "place") Place bs
+    <|> named (codes "post") Post bs
+    <|> named (codes "absorb") Absorb bs
+    <|> named (codes "step") Step bs
+    <|> named (codes "round") Round bs
+    <|> named (codes "report") Report bs
+    <|> named (codes "collect") Collect bs
 
 -- what a word and its three numbers ask for; unused numbers are 0, and a list has at most 64 places
 abbrev pub asked_for : Word → ℕ → ℕ → ℕ → Option Item
@@ -73,4 +80,8 @@ asked_for Collect a b c = provided (nat_le a 64 && (b == 0 && c == 0)) (item.Mak
 
 -- a further line: a word and three numbers
 abbrev pub item_of : List ℕ → Option Item
-item_of line = if short line then and_then (word_of line) (λ w. and_then (three_of w.1) (λ t. asked_for w.0 t.0 t.1 t.2)) else None
+item_of line = do
+  l ← provided (fits_line line) line
+  w ← word_of l
+  t ← three_of w.1
+  asked_for w.0 t.0 t.1 t.2

@@ -1,16 +1,19 @@
 -- How a script is written.
-use Rattle.std.specs.Prelude.{◌≡◌, ℕ, ◌^◌, Bool, true, false, not, ◌&&◌, ◌||◌, List, [], ◌∷◌, ◌++◌, length, Some, None, codes, decimal, nat_le, nat_lt}
+use Rattle.std.specs.Prelude.{◌≡◌, ℕ, ◌^◌, Bool, true, false, not, ◌&&◌, ◌||◌, List, [], ◌∷◌, ◌++◌, length, Some, None}
+use Rattle.std.specs.Prelude.{codes, decimal, nat_le, nat_lt}
 use Rattle.std.specs.List.{flat_map}
-use Rattle.machine.specs.declared.base.Call.{Call}
-use Rattle.machine.specs.declared.base.Call.TheVariants.{Post, Absorb, Step, Round, Report, Collect}
+use Rattle.machine.specs.declared.call.Call.{Call}
+use Rattle.machine.specs.declared.call.Call.TheVariants.{Post, Absorb, Step, Round, Report, Collect}
+use Rattle.machine.specs.Text.{call_text, call_words}
 use Rattle.sequential.specs.Text.{spaced}
-use Rattle.script.specs.declared.base.Heading.{Heading}
-use Rattle.script.specs.declared.base.Item.{Item}
-use Rattle.script.specs.declared.base.Item.TheVariants.{Place, Make}
-use Rattle.script.specs.declared.base.ModelKind.{ModelKind}
-use Rattle.script.specs.declared.base.ModelKind.TheVariants.{Switch, Phold}
-use Rattle.script.specs.declared.base.PoolKind.{PoolKind}
-use Rattle.script.specs.declared.base.PoolKind.TheVariants.{Common, Receiver}
+pub use Rattle.sequential.specs.Text.{behind}
+use Rattle.script.specs.declared.heading.Heading.{Heading}
+use Rattle.script.specs.declared.item.Item.{Item}
+use Rattle.script.specs.declared.item.Item.TheVariants.{Place, Make}
+use Rattle.script.specs.declared.heading.ModelKind.{ModelKind}
+use Rattle.script.specs.declared.heading.ModelKind.TheVariants.{Switch, Phold}
+use Rattle.script.specs.declared.heading.PoolKind.{PoolKind}
+use Rattle.script.specs.declared.heading.PoolKind.TheVariants.{Common, Receiver}
 use Rattle.script.specs.Lines.{heading_names, call_names}
 use Rattle.script.specs.Reading.{is_call, reading}
 
@@ -18,26 +21,30 @@ abbrev pub model_text : ModelKind → List ℕ
 model_text Switch = codes "switch"
 model_text Phold = codes "phold"
 
-abbrev pub pool_text : PoolKind → List ℕ
-pool_text Common = codes " common"
-pool_text Receiver = codes " receiver"
+abbrev pub pool_word : PoolKind → List ℕ
+pool_word Common = codes "common"
+pool_word Receiver = codes "receiver"
 
--- a figure behind one space
-abbrev pub behind : ℕ → List ℕ
-behind n = 32 ∷ decimal n
+-- the pool's word behind one space
+abbrev pub pool_text : PoolKind → List ℕ
+pool_text p = 32 ∷ pool_word p
+
+-- the second line, without its line feed
+abbrev pub heading_words : Heading → List ℕ
+heading_words h =
+    model_text h.model
+    ++ (behind h.size ++ (behind h.setting ++ (pool_text h.pool ++ flat_map behind (h.end ∷ h.most ∷ h.workers ∷ []))))
 
 -- the second line
 abbrev pub heading_text : Heading → List ℕ
 heading_text h =
-    model_text h.model ++ (behind h.size ++ (behind h.setting ++ (pool_text h.pool ++ spaced (h.end ∷ h.most ∷ h.workers ∷ []))))
+    model_text h.model
+    ++ (behind h.size ++ (behind h.setting ++ (pool_text h.pool ++ spaced (h.end ∷ h.most ∷ h.workers ∷ []))))
 
-abbrev pub call_text : Call → List ℕ
-call_text (Post p t x) = codes "post" ++ spaced (p ∷ t ∷ x ∷ [])
-call_text (Absorb w) = codes "absorb" ++ spaced (w ∷ 0 ∷ 0 ∷ [])
-call_text (Step w) = codes "step" ++ spaced (w ∷ 0 ∷ 0 ∷ [])
-call_text Round = codes "round" ++ spaced (0 ∷ 0 ∷ 0 ∷ [])
-call_text (Report w) = codes "report" ++ spaced (w ∷ 0 ∷ 0 ∷ [])
-call_text (Collect n) = codes "collect" ++ spaced (n ∷ 0 ∷ 0 ∷ [])
+-- a further line, without its line feed
+abbrev pub item_words : Item → List ℕ
+item_words (Place p w) = codes "place" ++ flat_map behind (p ∷ w ∷ 0 ∷ [])
+item_words (Make c) = call_words c
 
 -- a further line
 abbrev pub item_text : Item → List ℕ
@@ -46,7 +53,8 @@ item_text (Make c) = call_text c
 
 -- a script: three heading lines, and a line for each item
 abbrev pub script_text : Heading → List Item → List ℕ
-script_text h items = (heading_names ++ 10 ∷ []) ++ (heading_text h ++ ((call_names ++ 10 ∷ []) ++ flat_map item_text items))
+script_text h items =
+    (heading_names ++ 10 ∷ []) ++ (heading_text h ++ ((call_names ++ 10 ∷ []) ++ flat_map item_text items))
 
 -- the numbers of a call are below 2^64, and a list has at most 64 places
 abbrev pub call_fits : Call → Bool
@@ -69,14 +77,24 @@ ordered begun (i ∷ items) = item_fits i && ((is_call i || not begun) && ordere
 -- the numbers of the heading are below 2^64, and its line has at most 80 bytes before its line feed
 abbrev pub heading_fits : Heading → Bool
 heading_fits h =
-    nat_lt h.size (2 ^ 64) && (nat_lt h.setting (2 ^ 64) && (nat_lt h.end (2 ^ 64) && (nat_lt h.most (2 ^ 64) && (nat_lt h.workers (2 ^ 64) && nat_le (length (heading_text h)) 81))))
+    nat_lt h.size (2 ^ 64)
+    && (nat_lt h.setting (2 ^ 64)
+    && (nat_lt h.end (2 ^ 64)
+    && (nat_lt h.most (2 ^ 64)
+    && (nat_lt h.workers (2 ^ 64) && nat_le (length (heading_text h)) 81))))
 
 -- what is written of a proper script reads back as the same
 abbrev pub ReadsBack : Heading → List Item → Type 0
-ReadsBack h items = heading_fits h ≡ true → ordered false items ≡ true → reading (script_text h items) ≡ record { heading = Some h; items = items; bad = None }
+ReadsBack h items =
+    heading_fits h ≡ true → ordered false items ≡ true
+    → reading (script_text h items) ≡ record { heading = Some h; items = items; bad = None }
 
 -- a script with no wrong line is proper, and is what is written of its heading and its items
 abbrev pub WrittenSo : List ℕ → Type 0
 WrittenSo bytes =
     (reading bytes).bad ≡ None
-    → (h : Heading) × ((reading bytes).heading ≡ Some h) × (bytes ≡ script_text h (reading bytes).items) × (heading_fits h ≡ true) × (ordered false (reading bytes).items ≡ true)
+    → (h : Heading)
+    × ((reading bytes).heading ≡ Some h)
+    × (bytes ≡ script_text h (reading bytes).items)
+    × (heading_fits h ≡ true)
+    × (ordered false (reading bytes).items ≡ true)

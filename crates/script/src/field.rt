@@ -1,9 +1,9 @@
-// The parts of a line, read from a place in it on: words and figures.
+//! The parts of a line, read off the front of what is left of it: words and figures.
 
-ghost use Rattle.std.specs.Prelude.{◌≡◌, drop};
-ghost use Rattle.script.specs.Fields.{after as after_word, ended, digit_of, figure_of, found, found_at, spaced_of, three_of};
+ghost use Rattle.std.specs.Prelude.{◌≡◌};
+ghost use Rattle.script.specs.Fields.{digit_of, ended, figure_of, named as named_so, parsed, spaced_of, three_of};
 
-// The value of a digit.
+// The value of a digit. Bytes are matched as `char`s against literals, here and below, as the users of this reader asked.
 fn digit(byte: u8) -> Option<u8>
     ensures { result ≡ digit_of byte }
 {
@@ -13,83 +13,61 @@ fn digit(byte: u8) -> Option<u8>
     }
 }
 
-// Where the rest begins, if the word stands there.
-pub(crate) fn after(line: &[u8], at: usize, word: &[u8]) -> Option<usize>
-    ensures { found_at line.now result ≡ after_word word.now (drop at line.now) }
+// What the word stands for, if the rest begins with it, and what follows it.
+pub(crate) fn named<'a, T: Drop>(rest: &'a [u8], word: &str, meaning: T) -> Option<(T, &'a [u8])>
+    ensures { parsed result ≡ named_so word.now meaning rest.now }
 {
-    let mut i = at;
-    for k in 0..word.len() {
-        if i >= line.len() || line[i] != word[k] {
-            return None;
-        }
-        i += 1;
-    }
-    Some(i)
+    let rest = rest.strip_prefix(word.as_bytes())?;
+    Some((meaning, rest))
 }
 
-// The figure that stands there, without leading zeros and below 2^64, and where the rest begins.
-pub(crate) fn figure(line: &[u8], at: usize) -> Option<(u64, usize)>
-    ensures { found line.now result ≡ figure_of (drop at line.now) }
+// The figure that stands there, without leading zeros and below 2^64, and what follows it. `str::parse` would take a
+// sign and leading zeros, which the layout does not.
+pub(crate) fn figure(rest: &[u8]) -> Option<(u64, &[u8])>
+    ensures { parsed result ≡ figure_of rest.now }
 {
-    if at >= line.len() {
-        return None;
+    let (first, mut left) = rest.split_first()?;
+    let mut n = digit(*first)? as u64;
+    if n == 0 {
+        return Some((0, left));
     }
-    let first = digit(line[at])?;
-    if first == 0 {
-        return Some((0, at + 1));
-    }
-    let mut n = first as u64;
-    for i in at + 1..line.len() {
-        let Some(d) = digit(line[i]) else {
-            return Some((n, i));
+    while let Some((next, behind)) = left.split_first() {
+        let Some(d) = digit(*next) else {
+            break;
         };
-        if n > (u64::MAX - d as u64) / 10 {
-            return None;
-        }
-        n = n * 10 + d as u64;
+        n = n.checked_mul(10)?.checked_add(d as u64)?;
+        left = behind;
     }
-    Some((n, line.len()))
+    Some((n, left))
 }
 
-// The figure that stands there behind one space.
-pub(crate) fn spaced(line: &[u8], at: usize) -> Option<(u64, usize)>
-    ensures { found line.now result ≡ spaced_of (drop at line.now) }
+// The figure that stands there behind one space, and what follows it.
+pub(crate) fn spaced(rest: &[u8]) -> Option<(u64, &[u8])>
+    ensures { parsed result ≡ spaced_of rest.now }
 {
-    if at >= line.len() {
-        return None;
-    }
-    match line[at] as char {
-        ' ' => figure(line, at + 1),
+    let (first, rest) = rest.split_first()?;
+    match *first as char {
+        ' ' => figure(rest),
         _ => None,
     }
 }
 
 // Whether a line feed alone is left.
-pub(crate) fn at_end(line: &[u8], at: usize) -> bool
-    ensures { result ≡ ended (drop at line.now) }
+pub(crate) fn at_end(rest: &[u8]) -> bool
+    ensures { result ≡ ended rest.now }
 {
-    if at >= line.len() {
-        return false;
-    }
-    if line.len() - at > 1 {
-        return false;
-    }
-    match line[at] as char {
-        '\n' => true,
+    match rest {
+        [last] => matches!(*last as char, '\n'),
         _ => false,
     }
 }
 
 // The three figures that stand there, each behind one space, at the end of the line.
-pub(crate) fn three(line: &[u8], at: usize) -> Option<(u64, u64, u64)>
-    ensures { result ≡ three_of (drop at line.now) }
+pub(crate) fn three(rest: &[u8]) -> Option<(u64, u64, u64)>
+    ensures { result ≡ three_of rest.now }
 {
-    let (a, at) = spaced(line, at)?;
-    let (b, at) = spaced(line, at)?;
-    let (c, at) = spaced(line, at)?;
-    if at_end(line, at) {
-        Some((a, b, c))
-    } else {
-        None
-    }
+    let (a, rest) = spaced(rest)?;
+    let (b, rest) = spaced(rest)?;
+    let (c, rest) = spaced(rest)?;
+    at_end(rest).then_some((a, b, c))
 }

@@ -1,21 +1,14 @@
-// Where a program's script comes from.
+//! Where a program's script comes from.
 
+use anyhow::Context;
 use std::io::Read;
 use std::{env, fs};
 
-// The bytes of the file that the first argument names, or else of standard input. What they are is outside of every
-// proof.
+/// The bytes of the file that the first argument names, or else of standard input.
+// No clause: what a file or standard input gives lies outside of every proof.
 pub fn read_input(rt: &HostRuntime) -> anyhow::Result<Vec<u8>> {
-    let mut args = env::args(rt)?;
-    let _ = args.next();
-    match args.next() {
-        Some(path) => match fs::read(rt, path.as_str()) {
-            Ok(bytes) => Ok(bytes),
-            Err(e) => {
-                eprintln!(rt; "cannot read {path}")?;
-                Err(e.into())
-            }
-        },
+    match env::args(rt)?.nth(1) {
+        Some(path) => fs::read(rt, path.as_str()).context(format_args!("cannot read {path}")),
         None => {
             let mut bytes = Vec::new(rt.alloc());
             rt.stdin().read_to_end(&mut bytes)?;

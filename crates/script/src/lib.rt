@@ -1,10 +1,11 @@
-// Scripts: what their bytes mean, a reader and a writer, and running them.
+//! Scripts: what their bytes mean, a reader and a writer, and running them.
 
 #![tactic(auto)]
 
-pub mod base;
 mod field;
+pub mod heading;
 pub mod input;
+pub mod item;
 mod line;
 pub mod play;
 pub mod read;

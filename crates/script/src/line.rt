@@ -1,12 +1,13 @@
-// One line of a script, with the line feed that ends it.
+//! One line of a script, with the line feed that ends it.
 
-ghost use Rattle.std.specs.Prelude.{◌≡◌, drop};
-ghost use Rattle.script.specs.Fields.{found};
-ghost use Rattle.script.specs.Lines.{asked_for, call_names, heading_names, heading_of, is_text, item_of, model_of, pool_of, word_of};
+ghost use Rattle.std.specs.Prelude.{◌≡◌};
+ghost use Rattle.script.specs.Fields.{parsed};
+ghost use Rattle.script.specs.Lines.{asked_for, heading_of, is_text, item_of, model_of, pool_of, word_of};
 
-use crate::base::{Heading, Item, ModelKind, PoolKind, Word};
-use crate::field::{after, at_end, spaced, three};
-use machine::base::Call;
+use crate::field::{at_end, named, spaced, three};
+use crate::heading::{COMMON, Heading, ModelKind, PHOLD, PoolKind, RECEIVER, SWITCH};
+use crate::item::{Item, PLACE, Word};
+use machine::call::Call;
 
 // The most bytes of a line, its line feed among them.
 const LONGEST_LINE: usize = 81;
@@ -14,50 +15,27 @@ const LONGEST_LINE: usize = 81;
 // The longest list of a collection.
 const LONGEST_LIST: u64 = 64;
 
+// Lines are bytes and no `str`: a script may hold any, and what is no text is a bad line like others.
 // Whether the line is this text.
-fn is_text(line: &[u8], text: &[u8]) -> bool
+pub(crate) fn is_text(line: &[u8], text: &str) -> bool
     ensures { result ≡ is_text text.now line.now }
 {
-    match after(line, 0, text) {
-        Some(at) => at_end(line, at),
-        None => false,
-    }
-}
-
-// Whether the line has the names of the heading's values.
-pub(crate) fn is_heading_names(line: &[u8]) -> bool
-    ensures { result ≡ is_text heading_names line.now }
-{
-    is_text(line, b"model size setting pool end cap workers")
-}
-
-// Whether the line has the names of a call's parts.
-pub(crate) fn is_call_names(line: &[u8]) -> bool
-    ensures { result ≡ is_text call_names line.now }
-{
-    is_text(line, b"call a b c")
+    line.strip_prefix(text.as_bytes()).is_some_and(at_end)
 }
 
 // The model that the line begins with.
-fn model_of(line: &[u8]) -> Option<(ModelKind, usize)>
-    ensures { found line.now result ≡ model_of line.now }
+fn model_of(line: &[u8]) -> Option<(ModelKind, &[u8])>
+    ensures { parsed result ≡ model_of line.now }
 {
-    if let Some(at) = after(line, 0, b"switch") {
-        return Some((ModelKind::Switch, at));
-    }
-    let at = after(line, 0, b"phold")?;
-    Some((ModelKind::Phold, at))
+    named(line, SWITCH, ModelKind::Switch).or_else(|| named(line, PHOLD, ModelKind::Phold))
 }
 
-// The pool that stands there.
-fn pool_of(line: &[u8], at: usize) -> Option<(PoolKind, usize)>
-    ensures { found line.now result ≡ pool_of (drop at line.now) }
+// The pool that stands there behind one space.
+fn pool_of(rest: &[u8]) -> Option<(PoolKind, &[u8])>
+    ensures { parsed result ≡ pool_of rest.now }
 {
-    if let Some(next) = after(line, at, b" common") {
-        return Some((PoolKind::Common, next));
-    }
-    let next = after(line, at, b" receiver")?;
-    Some((PoolKind::Receiver, next))
+    let rest = rest.strip_prefix(b" ")?;
+    named(rest, COMMON, PoolKind::Common).or_else(|| named(rest, RECEIVER, PoolKind::Receiver))
 }
 
 // The heading's values.
@@ -67,11 +45,11 @@ pub(crate) fn heading_of(line: &[u8]) -> Option<Heading>
     if line.len() > LONGEST_LINE {
         return None;
     }
-    let (model, at) = model_of(line)?;
-    let (size, at) = spaced(line, at)?;
-    let (setting, at) = spaced(line, at)?;
-    let (pool, at) = pool_of(line, at)?;
-    let (end, most, workers) = three(line, at)?;
+    let (model, rest) = model_of(line)?;
+    let (size, rest) = spaced(rest)?;
+    let (setting, rest) = spaced(rest)?;
+    let (pool, rest) = pool_of(rest)?;
+    let (end, most, workers) = three(rest)?;
     Some(Heading {
         model,
         size,
@@ -83,30 +61,18 @@ pub(crate) fn heading_of(line: &[u8]) -> Option<Heading>
     })
 }
 
+// (The calls' words are those that `Call` prints: that each line printed reads back is proved.)
 // The word of a call or a placing that the line begins with.
-fn word_of(line: &[u8]) -> Option<(Word, usize)>
-    ensures { found line.now result ≡ word_of line.now }
+fn word_of(line: &[u8]) -> Option<(Word, &[u8])>
+    ensures { parsed result ≡ word_of line.now }
 {
-    if let Some(at) = after(line, 0, b"place") {
-        return Some((Word::Place, at));
-    }
-    if let Some(at) = after(line, 0, b"post") {
-        return Some((Word::Post, at));
-    }
-    if let Some(at) = after(line, 0, b"absorb") {
-        return Some((Word::Absorb, at));
-    }
-    if let Some(at) = after(line, 0, b"step") {
-        return Some((Word::Step, at));
-    }
-    if let Some(at) = after(line, 0, b"round") {
-        return Some((Word::Round, at));
-    }
-    if let Some(at) = after(line, 0, b"report") {
-        return Some((Word::Report, at));
-    }
-    let at = after(line, 0, b"collect")?;
-    Some((Word::Collect, at))
+    named(line, PLACE, Word::Place)
+        .or_else(|| named(line, "post", Word::Post))
+        .or_else(|| named(line, "absorb", Word::Absorb))
+        .or_else(|| named(line, "step", Word::Step))
+        .or_else(|| named(line, "round", Word::Round))
+        .or_else(|| named(line, "report", Word::Report))
+        .or_else(|| named(line, "collect", Word::Collect))
 }
 
 // What a word and its three numbers ask for; unused numbers are 0.
@@ -134,7 +100,7 @@ pub(crate) fn item_of(line: &[u8]) -> Option<Item>
     if line.len() > LONGEST_LINE {
         return None;
     }
-    let (word, at) = word_of(line)?;
-    let (a, b, c) = three(line, at)?;
+    let (word, rest) = word_of(line)?;
+    let (a, b, c) = three(rest)?;
     asked_for(word, a, b, c)
 }

@@ -1,62 +1,127 @@
-// Running a script: what it prints.
+//! Running a script: what it prints, and what else is done with it.
 
-ghost use Rattle.std.specs.Prelude.{◌≡◌, [], ◌∷◌, ◌++◌, IfOk, string_bytes, codes, OnOk};
+ghost use Rattle.std.specs.Prelude.{◌≡◌, ℕ, List, ◌++◌, string_bytes, IfOk, MatchResult, OnOk};
+ghost use Rattle.executive.specs.Running.{Keeps};
 ghost use Rattle.executive.specs.Runs.{answer_of};
-ghost use Rattle.executive.specs.World.{Lent, Makes};
 ghost use Rattle.law.specs.Law.{lines_told};
-ghost use Rattle.machine.specs.declared.base.Answer.{Answer as Reply};
+ghost use Rattle.machine.specs.declared.plan.Plan.{Plan};
+ghost use Rattle.model.specs.Meaning.{Meaning};
+ghost use Rattle.pool.specs.Lanes.{Lanes};
 ghost use Rattle.script.specs.Case.{TheFirstCaseIsReadAndWrittenSo};
-ghost use Rattle.script.specs.Play.{Played, PlayedAll};
-ghost use Rattle.script.specs.Playing.{Heads, PlacedBy, Plays, Prints, Session, Settles, bad_text, end_text, is_third, lanes_of};
-ghost use Rattle.sequential.specs.Text.{field_names, line_text};
+ghost use Rattle.script.specs.Play.{PlaysItem, PlaysItems};
+ghost use Rattle.script.specs.Playing.{PlacedBy, Plays, Prints, Reads, Session, Settles, bad_text, end_text};
+ghost use Rattle.script.specs.Playing.{kind_lanes};
+ghost use Rattle.script.specs.Reading.{Reading, meaning};
+ghost use Rattle.sequential.specs.Text.{line_text};
 ghost use Rattle.std.specs.List.{flat_map};
 
-use crate::base::{Heading, Item, ModelKind, PoolKind};
-use crate::read::read;
-use executive::base::{Executive, Setup};
-use machine::base::Answer;
-use model::base::Model;
+use crate::heading::{CALL_NAMES_LINE, HEADING_LINE, Heading, ModelKind, PoolKind};
+use crate::item::Item;
+use crate::read::{Script, read};
+use crate::write::write_end;
+use executive::{Executive, Setup};
+use machine::call::Answer;
+use model::Model;
+use model::limits::OutsideLimits;
 use model::phold::Phold;
 use model::switch::Switch;
-use pool::base::Pool;
+use pool::Pool;
 use pool::common::CommonPool;
 use pool::receiver::ReceiverPool;
-use sequential::base::Line;
-use sequential::text::{field_names, write_figure, write_line};
+use sequential::event::Line;
+use sequential::text::{field_names, write_lines};
 use std::alloc::{AllocError, Global};
 
-// The line of the values, and the line of the call names.
-const VALUES_LINE: u64 = 2;
+/// What is done with a script over a setup to its heading's values, whatever the model and the pool.
+pub trait Player {
+    // what may be printed of a script's meaning, over a setup of a model, a pool's lanes and a plan
+    ghost prints: { Reading → Meaning → Lanes → Plan → List ℕ → Type 0 };
 
-const NAMES_LINE: u64 = 3;
+    fn play<M: Model + Drop, P: Pool + Drop>(
+        alloc: Global,
+        script: &Script,
+        setup: Setup<M, P>,
+    ) -> Result<String, AllocError>
+        ensures { IfOk result
+            (λ t. prints (meaning script.now) (M.meaning setup.model) P.lanes setup.plan (string_bytes t)) };
+}
 
-// Writes the lines, one after the other.
-fn write_lines(text: &mut String, lines: &[Line]) -> Result<(), AllocError>
-    ensures { OnOk result (string_bytes text.new ≡ string_bytes text.old ++ flat_map line_text lines.now) }
+// The bad line alone, if there is one.
+fn bad_line(alloc: Global, bad: Option<u64>) -> Result<String, AllocError>
+    ensures { IfOk result (λ t. string_bytes t ≡ end_text bad) }
 {
-    for i in 0..lines.len() {
-        write_line(text, &lines[i])?;
+    let mut text = String::new(alloc);
+    write_end(&mut text, bad)?;
+    Ok(text)
+}
+
+// Sets up to the heading's values, and plays the script. A refused setting is a bad second line, and comes before a bad
+// third line.
+fn play_setup<V: Player, M: Model + Drop, P: Pool + Drop>(
+    alloc: Global,
+    model: M,
+    heading: &Heading,
+    script: &Script,
+) -> Result<String, AllocError>
+    ensures { IfOk result
+        (λ t. Plays V.prints (M.meaning model) P.lanes heading.now (meaning script.now) (string_bytes t)) }
+{
+    let mut setup: Setup<M, P> = Setup::fresh(model);
+    if setup
+        .set(heading.end, heading.most, heading.workers)
+        .is_err()
+    {
+        return bad_line(alloc, Some(HEADING_LINE));
     }
-    Ok(())
+    if script.bad == Some(CALL_NAMES_LINE) {
+        return bad_line(alloc, script.bad);
+    }
+    V::play(alloc, script, setup)
 }
 
-// Names a bad line by its number.
-fn write_bad(text: &mut String, number: u64) -> Result<(), AllocError>
-    ensures { OnOk result (string_bytes text.new ≡ string_bytes text.old ++ bad_text number) }
+// Plays the script over the pool that its heading names; values that make no model are a bad second line.
+fn play_model<V: Player, M: Model + Drop>(
+    alloc: Global,
+    made: Result<M, OutsideLimits>,
+    heading: &Heading,
+    script: &Script,
+) -> Result<String, AllocError>
+    ensures { IfOk result (λ t. MatchResult made
+        (λ m. Plays V.prints (M.meaning m) (kind_lanes heading.now.pool) heading.now (meaning script.now)
+        (string_bytes t))
+        (λ _. string_bytes t ≡ bad_text 2)) }
 {
-    text.push_str("line ")?;
-    write_figure(text, number)?;
-    text.push('\n')?;
-    Ok(())
+    let Ok(model) = made else {
+        return bad_line(alloc, Some(HEADING_LINE));
+    };
+    // a `match` and no `dyn`: a setup's type names its model and its pool
+    match heading.pool {
+        PoolKind::Common => play_setup::<V, M, CommonPool>(alloc, model, heading, script),
+        PoolKind::Receiver => play_setup::<V, M, ReceiverPool>(alloc, model, heading, script),
+    }
 }
 
-// Names the bad line, if there is one.
-fn write_end(text: &mut String, bad: Option<u64>) -> Result<(), AllocError>
-    ensures { OnOk result (string_bytes text.new ≡ string_bytes text.old ++ end_text bad) }
+/// Plays a script with the model and over the pool that its heading names; without a heading its bad line is named.
+pub fn play_script<V: Player>(alloc: Global, script: &Script) -> Result<String, AllocError>
+    ensures { IfOk result (λ t. Reads V.prints (meaning script.now) (string_bytes t)) }
 {
-    match bad {
-        None => Ok(()),
-        Some(number) => write_bad(text, number),
+    let Some(heading) = script.heading else {
+        return bad_line(alloc, script.bad);
+    };
+    // a `match` and no `dyn`: a setup's type names its model and its pool
+    match heading.model {
+        ModelKind::Switch => play_model::<V, Switch>(
+            alloc,
+            Switch::new(heading.size, heading.setting),
+            &heading,
+            script,
+        ),
+        ModelKind::Phold => play_model::<V, Phold>(
+            alloc,
+            Phold::new(heading.size, heading.setting),
+            &heading,
+            script,
+        ),
     }
 }
 
@@ -73,41 +138,34 @@ fn write_answer(text: &mut String, answer: &Answer<Vec<Line>>) -> Result<(), All
 
 // Makes the call of an item, and writes the lines that it hands out; a placing was done before the start.
 fn play_item<M: Model, P: Pool>(
-    heap: Global,
+    alloc: Global,
     executive: &mut Executive<M, P>,
     item: Item,
     text: &mut String,
 ) -> Result<(), AllocError>
-    ensures model { executive.new.model ≡ executive.old.model }
-    ensures plan { executive.new.plan ≡ executive.old.plan }
-    ensures plays { OnOk result
-        (Played (M.meaning executive.old.model) P.lanes executive.old.plan executive.old.tables
-        (P.places executive.old.pool) item (string_bytes text.old) (string_bytes text.new) executive.new.tables
-        (P.places executive.new.pool)) }
+    ensures plays { OnOk result (PlaysItem executive.old item text.old text.new executive.new) }
+    ensures keeps { Keeps executive.old executive.new }
 {
     match item {
         Item::Place(_, _) => Ok(()),
         Item::Make(call) => {
-            let answer = executive.make(heap, call)?;
-            write_answer(text, &answer)?;
-            Ok(())
+            let answer = executive.make(alloc, call)?;
+            write_answer(text, &answer)
         }
     }
 }
 
 // Makes the calls of the items, one after the other, and writes the lines that they hand out.
 fn play_items<M: Model, P: Pool>(
-    heap: Global,
+    alloc: Global,
     executive: &mut Executive<M, P>,
     items: &[Item],
     text: &mut String,
 ) -> Result<(), AllocError>
-    ensures { OnOk result
-        (PlayedAll (M.meaning executive.old.model) P.lanes executive.old.plan executive.old.tables
-        (P.places executive.old.pool) items.now (string_bytes text.old) (string_bytes text.new)) }
+    ensures { OnOk result (PlaysItems executive.old items.now text.old text.new executive.new) }
 {
-    for i in 0..items.len() {
-        play_item(heap, executive, items[i], text)?;
+    for item in items {
+        play_item(alloc, executive, *item, text)?;
     }
     Ok(())
 }
@@ -117,12 +175,8 @@ fn place_item<M: Model, P: Pool>(setup: &mut Setup<M, P>, item: Item)
     ensures model { setup.new.model ≡ setup.old.model }
     ensures places { PlacedBy (M.meaning setup.old.model) setup.old.plan item setup.new.plan }
 {
-    match item {
-        Item::Place(process, worker) => match setup.place(process, worker) {
-            Ok(()) => {}
-            Err(_) => {}
-        },
-        Item::Make(_) => {}
+    if let Item::Place(process, worker) = item {
+        let _ = setup.place(process, worker);
     }
 }
 
@@ -131,140 +185,41 @@ fn place_items<M: Model, P: Pool>(setup: &mut Setup<M, P>, items: &[Item])
     ensures model { setup.new.model ≡ setup.old.model }
     ensures settles { Settles (M.meaning setup.old.model) setup.old.plan items.now setup.new.plan }
 {
-    for i in 0..items.len() {
-        place_item(setup, items[i]);
+    for item in items {
+        place_item(setup, *item);
     }
 }
 
-// The text of a bad line alone.
-fn bad_line(heap: Global, number: u64) -> Result<String, AllocError>
-    ensures { IfOk result (λ t. string_bytes t ≡ bad_text number) }
-{
-    let mut text = String::new(heap);
-    write_bad(&mut text, number)?;
-    Ok(text)
-}
+// Running: does the placings, starts, and plays the calls. Printed are the names of the fields, each line as it is
+// handed out, and the bad line.
+struct Run;
 
-// Does the placings, starts, and plays the calls: the names of the fields, each line as it is handed out, and the
-// bad line.
-fn session<M: Model + Drop, P: Pool + Drop>(
-    heap: Global,
-    mut setup: Setup<M, P>,
-    items: &[Item],
-    bad: Option<u64>,
-) -> Result<String, AllocError>
-    ensures { IfOk result (λ t. Session (M.meaning setup.model) P.lanes setup.plan items.now bad (string_bytes t)) }
-{
-    place_items(&mut setup, items);
-    let mut executive = setup.start();
-    let mut text = String::from_str(heap, field_names())?;
-    play_items(heap, &mut executive, items, &mut text)?;
-    write_end(&mut text, bad)?;
-    Ok(text)
-}
+impl Player for Run {
+    ghost prints = { Session };
 
-// Whether the third line is bad.
-fn is_third(bad: Option<u64>) -> bool
-    ensures { result ≡ is_third bad }
-{
-    match bad {
-        None => false,
-        Some(number) => number == NAMES_LINE,
+    fn play<M: Model + Drop, P: Pool + Drop>(
+        alloc: Global,
+        script: &Script,
+        mut setup: Setup<M, P>,
+    ) -> Result<String, AllocError> {
+        place_items(&mut setup, &script.items);
+        let mut executive = setup.start();
+        let mut text = String::from_str(alloc, field_names())?;
+        play_items(alloc, &mut executive, &script.items, &mut text)?;
+        write_end(&mut text, script.bad)?;
+        Ok(text)
     }
 }
 
-// Sets up to the heading's values and plays the items; a refused setting is a bad second line.
-fn play<M: Model + Drop, P: Pool + Drop>(
-    heap: Global,
-    model: M,
-    heading: &Heading,
-    items: &[Item],
-    bad: Option<u64>,
-) -> Result<String, AllocError>
-    ensures { IfOk result (λ t. Plays (M.meaning model) P.lanes heading.now items.now bad (string_bytes t)) }
-{
-    let mut setup: Setup<M, P> = Setup::fresh(model);
-    if let Err(_) = setup.set(heading.end, heading.most, heading.workers) {
-        return bad_line(heap, VALUES_LINE);
-    }
-    if is_third(bad) {
-        return bad_line(heap, NAMES_LINE);
-    }
-    let text = session(heap, setup, items, bad)?;
-    Ok(text)
-}
-
-// Plays the items over the pool that the heading names.
-fn play_over<M: Model + Drop>(
-    heap: Global,
-    model: M,
-    heading: &Heading,
-    items: &[Item],
-    bad: Option<u64>,
-) -> Result<String, AllocError>
-    ensures { IfOk result
-        (λ t. Plays (M.meaning model) (lanes_of heading.now.pool) heading.now items.now bad (string_bytes t)) }
-{
-    match heading.pool {
-        PoolKind::Common => {
-            let text = play::<M, CommonPool>(heap, model, heading, items, bad)?;
-            Ok(text)
-        }
-        PoolKind::Receiver => {
-            let text = play::<M, ReceiverPool>(heap, model, heading, items, bad)?;
-            Ok(text)
-        }
-    }
-}
-
-// Plays the items with the model that the heading names; values that make none are a bad second line.
-fn play_heading(
-    heap: Global,
-    heading: &Heading,
-    items: &[Item],
-    bad: Option<u64>,
-) -> Result<String, AllocError>
-    ensures { IfOk result (λ t. Heads heading.now items.now bad (string_bytes t)) }
-{
-    match heading.model {
-        ModelKind::Switch => match Switch::new(heading.size, heading.setting) {
-            Ok(model) => {
-                let text = play_over(heap, model, heading, items, bad)?;
-                Ok(text)
-            }
-            Err(_) => bad_line(heap, VALUES_LINE),
-        },
-        ModelKind::Phold => match Phold::new(heading.size, heading.setting) {
-            Ok(model) => {
-                let text = play_over(heap, model, heading, items, bad)?;
-                Ok(text)
-            }
-            Err(_) => bad_line(heap, VALUES_LINE),
-        },
-    }
-}
-
-// Runs a script: what it prints.
-pub fn run_script(heap: Global, bytes: &[u8]) -> Result<String, AllocError>
+/// Runs a script: what it prints.
+pub fn run_script(alloc: Global, bytes: &[u8]) -> Result<String, AllocError>
     ensures { IfOk result (λ t. Prints bytes.now (string_bytes t)) }
 {
-    let script = read(heap, bytes)?;
-    match script.heading {
-        None => {
-            let mut text = String::new(heap);
-            write_end(&mut text, script.bad)?;
-            Ok(text)
-        }
-        Some(heading) => {
-            let text = play_heading(heap, &heading, script.items.as_slice(), script.bad)?;
-            Ok(text)
-        }
-    }
+    let script = read(alloc, bytes)?;
+    play_script::<Run>(alloc, &script)
 }
 
-// The first worked case, as a script and as text.
-pub fn the_first_case_is_read_and_written_so() -> u8
+/// Theorem: the first worked case, as a script and as text.
+pub fn the_first_case_is_read_and_written_so()
     ensures { TheFirstCaseIsReadAndWrittenSo }
-{
-    0
-}
+{}

@@ -1,82 +1,75 @@
-// Reading a script, line by line.
+//! Reading a script, line by line.
 
-ghost use Rattle.std.specs.Prelude.{◌≡◌, ◌-◌, ◌<◌, ◌≤◌, false, [], ◌∷◌, length, take, drop, IfOk, Some, OnOk};
+ghost use Rattle.std.specs.Prelude.{◌≡◌, ◌<◌, false, [], length, drop, slice_index_or, IfOk, OnOk, Some};
 ghost use Rattle.script.specs.Lines.{lines_of};
-ghost use Rattle.script.specs.Reading.{is_call, items_from, meaning, next_of, reading};
+ghost use Rattle.script.specs.Reading.{is_call, items_from, meaning, next_of, reading, stops_at};
 ghost use Rattle.script.specs.Writing.{WrittenSo};
 
-use crate::base::{Heading, Item, Script};
-use crate::line::{heading_of, is_call_names, is_heading_names, item_of};
+use crate::heading::{
+    CALL_NAMES, CALL_NAMES_LINE, HEADING_LINE, HEADING_NAMES, HEADING_NAMES_LINE, Heading,
+};
+use crate::item::Item;
+use crate::line::{heading_of, is_text, item_of};
 use std::alloc::{AllocError, Global};
 
-// Where the line that begins there ends: behind its line feed, or else where the bytes end.
-fn line_end(bytes: &[u8], at: usize) -> usize
-    requires { at ≤ length bytes.now }
-    ensures from { at ≤ result }
-    ensures within { result ≤ length bytes.now }
-    ensures more { at < length bytes.now → at < result }
-    ensures cut { at < length bytes.now →
-        lines_of (drop at bytes.now) ≡ take (result - at) (drop at bytes.now) ∷ lines_of (drop result bytes.now) }
-{
-    for i in at..bytes.len() {
-        match bytes[i] as char {
-            '\n' => return i + 1,
-            _ => {}
-        }
-    }
-    bytes.len()
+/// What the bytes of a script mean: its heading, where the first two lines are right; what its right lines ask for, up
+/// to the first wrong one; and the number of the first wrong or missing line.
+// A line can be bad with and without a heading, so an enum by the heading would have `bad` in both of its variants.
+#[derive(Drop)]
+pub struct Script {
+    pub heading: Option<Heading>,
+    pub items: Vec<Item>,
+    pub bad: Option<u64>,
 }
 
-// Whether a call is made.
+// The first line that is left, with the line feed that ends it if it has one, and what follows it. Where no byte is
+// left the line has none.
+fn next_line(rest: &[u8]) -> (&[u8], &[u8])
+    ensures line { result.0.now ≡ slice_index_or (lines_of rest.now) 0 [] }
+    ensures others { lines_of result.1.now ≡ drop 1 (lines_of rest.now) }
+    ensures fewer { 0 < length rest.now → length result.1.now < length rest.now }
+{
+    match rest.iter().position(|byte| matches!(*byte as char, '\n')) {
+        Some(feed) => rest.split_at(feed + 1),
+        None => rest.split_at(rest.len()),
+    }
+}
+
 fn is_call(item: &Item) -> bool
     ensures { result ≡ is_call item.now }
 {
-    match item {
-        Item::Place(_, _) => false,
-        Item::Make(_) => true,
-    }
+    matches!(item, Item::Make(_))
 }
 
 // What a further line asks for: no process is placed behind a call.
 fn next_of(begun: bool, line: &[u8]) -> Option<Item>
     ensures { result ≡ next_of begun line.now }
 {
-    let item = item_of(line)?;
-    if is_call(&item) || !begun {
-        Some(item)
-    } else {
-        None
-    }
+    item_of(line).filter(|item| is_call(item) || !begun)
 }
 
 // What the lines from the fourth on ask for.
-fn read_items(
-    heap: Global,
-    heading: Heading,
-    bytes: &[u8],
-    from: usize,
-) -> Result<Script, AllocError>
-    requires late { 4 ≤ from }
-    requires within { from ≤ length bytes.now }
-    ensures { IfOk result (λ s. meaning s ≡ items_from heading [] false 4 (lines_of (drop from bytes.now))) }
+fn read_items(alloc: Global, heading: Heading, lines: &[u8]) -> Result<Script, AllocError>
+    ensures { IfOk result (λ s. meaning s ≡ items_from heading [] false 4 (lines_of lines.now)) }
 {
-    let mut items = Vec::new(heap);
+    let mut items = Vec::new(alloc);
     let mut begun = false;
-    let mut line = 4;
-    let mut at = from;
-    while at < bytes.len() {
-        let end = line_end(bytes, at);
-        let Some(item) = next_of(begun, &bytes[at..end]) else {
+    let mut number = CALL_NAMES_LINE + 1;
+    let mut rest = lines;
+    // not `str::lines`: it drops line feeds, and a line that has none is wrong
+    while !rest.is_empty() {
+        let (line, others) = next_line(rest);
+        let Some(item) = next_of(begun, line) else {
             return Ok(Script {
                 heading: Some(heading),
                 items,
-                bad: Some(line),
+                bad: Some(number),
             });
         };
         begun = is_call(&item);
         items.push(item)?;
-        line += 1;
-        at = end;
+        number += 1;
+        rest = others;
     }
     Ok(Script {
         heading: Some(heading),
@@ -86,33 +79,33 @@ fn read_items(
 }
 
 // A script with no right line from the fourth on.
-fn stopped(heap: Global, heading: Option<Heading>, bad: u64) -> Script
-    ensures { meaning result ≡ record { heading = heading; items = []; bad = Some bad } }
+fn stopped(alloc: Global, heading: Option<Heading>, bad: u64) -> Script
+    ensures { meaning result ≡ stops_at bad heading [] }
 {
     Script {
         heading,
-        items: Vec::new(heap),
+        items: Vec::new(alloc),
         bad: Some(bad),
     }
 }
 
-// Reads a script; it fails for want of memory alone. A script with no wrong line is what is written of its heading and
-// its items.
-pub fn read(heap: Global, bytes: &[u8]) -> Result<Script, AllocError>
+/// Reads a script; it fails for want of memory alone. A script with no wrong line is what is written of its heading
+/// and its items.
+pub fn read(alloc: Global, bytes: &[u8]) -> Result<Script, AllocError>
     ensures means { IfOk result (λ s. meaning s ≡ reading bytes.now) }
     ensures written { OnOk result (WrittenSo bytes.now) }
 {
-    let first = line_end(bytes, 0);
-    if !is_heading_names(&bytes[0..first]) {
-        return Ok(stopped(heap, None, 1));
+    let (names, rest) = next_line(bytes);
+    if !is_text(names, HEADING_NAMES) {
+        return Ok(stopped(alloc, None, HEADING_NAMES_LINE));
     }
-    let second = line_end(bytes, first);
-    let Some(heading) = heading_of(&bytes[first..second]) else {
-        return Ok(stopped(heap, None, 2));
+    let (values, rest) = next_line(rest);
+    let Some(heading) = heading_of(values) else {
+        return Ok(stopped(alloc, None, HEADING_LINE));
     };
-    let third = line_end(bytes, second);
-    if !is_call_names(&bytes[second..third]) {
-        return Ok(stopped(heap, Some(heading), 3));
+    let (names, rest) = next_line(rest);
+    if !is_text(names, CALL_NAMES) {
+        return Ok(stopped(alloc, Some(heading), CALL_NAMES_LINE));
     }
-    read_items(heap, heading, bytes, third)
+    read_items(alloc, heading, rest)
 }
