@@ -1,6 +1,6 @@
 -- The Time Warp machine: processes, messages by their buffers, workers, the pool's places, and what becomes of them.
-use Rattle.std.specs.Prelude.{ℕ, zero, suc, ◌+◌, min, Bool, true, false, if◌then◌else◌, not, ◌&&◌, List, [], ◌∷◌, ◌++◌}
-use Rattle.std.specs.Prelude.{map, length, slice_index_or, replicate, Some, None, Option, ◌==◌, nat_lt, slice_index}
+use Rattle.std.specs.Prelude.{ℕ, zero, suc, ◌+◌, min, Bool, true, false, if◌then◌else◌, not, ◌&&◌, List, [], ◌∷◌}
+use Rattle.std.specs.Prelude.{map, slice_index_or, replicate, Some, None, Option, ◌==◌, nat_lt, slice_index}
 use Rattle.std.specs.Prelude.{slice_set}
 use Rattle.model.specs.Formulas.{zeros}
 use Rattle.model.specs.Meaning.{Meaning, listed, many}

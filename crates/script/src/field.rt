@@ -3,7 +3,7 @@
 ghost use Rattle.std.specs.Prelude.{◌≡◌};
 ghost use Rattle.script.specs.Fields.{digit_of, ended, figure_of, named as named_so, parsed, spaced_of, three_of};
 
-// The value of a digit. Bytes are matched as `char`s against literals, here and below, as the users of this reader asked.
+// The value of a digit. Bytes are matched as `char`s against literals, here and below: a rule of the project.
 fn digit(byte: u8) -> Option<u8>
     ensures { result ≡ digit_of byte }
 {

@@ -73,7 +73,7 @@ impl Tables {
         let message = self.records.at(buffer);
         let phase = message.phase;
         let event = message.event;
-        // by a `match` on the phase, as the definition has it
+        // a `match`, and no `==`: that is a call, whose answer a proof would turn back into the phase
         match phase {
             Phase::Done => {
                 let through = Latest {

@@ -39,7 +39,7 @@ impl Tables {
         let process = message.event.process;
         self.mark(buffer);
         self.lower(worker, time);
-        // by a `match` on the phase, as the definition has it
+        // a `match`, and no `==`: that is a call, whose answer a proof would turn back into the phase
         match phase {
             Phase::Transit => {}
             _ => self.enter(home_of(plan, process), buffer),

@@ -1,6 +1,5 @@
-use Rattle.std.proofs.Common.{◌<◌, replicate, arith}
+use Rattle.std.proofs.Common.{replicate, arith}
 use lib.ListN.{get_or-replicate, length-replicate}
-use Rattle.machine.specs.declared.message.Message.{Message}
 use Rattle.machine.specs.declared.message.Phase.TheVariants.{Free}
 use Rattle.machine.specs.Machine.{blank}
 use Rattle.choice.specs.Turn.{HasLowProcesses, Mirrored, Until}
