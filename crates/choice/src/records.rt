@@ -49,7 +49,7 @@ pub struct Records {
     // the switch load 1.8 times and the Phold load 1.5 times as long
     phases: [Phase; BUFFERS],
     // of each process, a time that no done event of it is later than: most messages that arrive find by it, without a
-    // pass, that there is nothing to undo; with it the loads take about 0.8 of the time
+    // pass, that there is nothing to undo
     done_until: [u64; PROCESSES],
 }
 
