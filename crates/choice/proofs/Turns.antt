@@ -85,6 +85,24 @@ module _ (ok : Message → Bool) (xs : List Message) (i : ℕ) (h : i < length x
       ≡ least_time ok (drop (i + 1) xs) t
   least_no t e = rw e at (at_first t)
 
+-- messages that may not be chosen count for nothing, and lower no time
+module _ (ok : Message → Bool) (xs : List Message) where
+  pub count_skip : (i n : ℕ) → i + n ≤ length xs → ((k : ℕ) → k < n → ok (get_or xs (i + k) blank) ≡ false) →
+      counted ok (drop (i + n) xs) ≡ counted ok (drop i xs)
+  count_skip i zero h out = let e : i + 0 ≡ i = omega arith in rw e
+  count_skip i (suc n) h out =
+      let e : i + suc n ≡ (i + n) + 1 = omega arith in
+      let one = count_no ok xs (i + n) (omega arith) (out n (omega arith)) in
+      rw e (sym one ∙ count_skip i n (omega arith) (λ k l. out k (omega arith)))
+
+  pub least_skip : (i n t : ℕ) → i + n ≤ length xs → ((k : ℕ) → k < n → ok (get_or xs (i + k) blank) ≡ false) →
+      least_time ok (drop (i + n) xs) t ≡ least_time ok (drop i xs) t
+  least_skip i zero t h out = let e : i + 0 ≡ i = omega arith in rw e
+  least_skip i (suc n) t h out =
+      let e : i + suc n ≡ (i + n) + 1 = omega arith in
+      let one = least_no ok xs (i + n) (omega arith) t (out n (omega arith)) in
+      rw e (sym one ∙ least_skip i n t (omega arith) (λ k l. out k (omega arith)))
+
 pub count_all : (ok : Message → Bool) (xs : List Message) (i : ℕ) → length xs ≤ i → counted ok (drop i xs) ≡ 0
 count_all ok xs i h = rw (drop_all i xs h)
 

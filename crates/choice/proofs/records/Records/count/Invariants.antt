@@ -1,10 +1,16 @@
-use Rattle.std.proofs.Common.{◌≡◌, ◌+◌, ◌≤◌, drop}
+use Rattle.std.proofs.Common.{◌≡◌, ◌+◌, ◌*◌, ◌≤◌, drop}
 use Rattle.machine.specs.Machine.{counted}
 use Rattle.choice.specs.Turn.{passes}
 use Rattle.choice.proofs.records.Records.count.Given as goal
 
-abbrev pub invariant-loop-message : goal.invariant-loop-message
-invariant-loop-message g l =
-    (l.n + counted (passes (g.C.Choice.ok l.choice)) (drop l.message-index l.message-items)
-    ≡ counted (passes (g.C.Choice.ok l.choice)) l.message-items)
-    × (l.n ≤ l.message-index)
+abbrev pub invariant-loop-block : goal.invariant-loop-block
+invariant-loop-block g l =
+    (l.n + counted (passes (g.C.Choice.ok l.choice)) (drop (16 * l.block) l.self)
+    ≡ counted (passes (g.C.Choice.ok l.choice)) l.self)
+    × (l.n ≤ 16 * l.block)
+
+abbrev pub invariant-loop-b : goal.invariant-loop-b
+invariant-loop-b g l =
+    (l.n + counted (passes (g.C.Choice.ok l.choice)) (drop l.b l.self)
+    ≡ counted (passes (g.C.Choice.ok l.choice)) l.self)
+    × (l.n ≤ l.b)

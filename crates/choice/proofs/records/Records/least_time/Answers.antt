@@ -1,19 +1,22 @@
-use Rattle.std.proofs.Common.{sym, ◌∙◌, arith}
+use Rattle.std.proofs.Common.{◌≡◌, ◌+◌, ◌*◌, ◌≤◌, length, sym, ◌∙◌, arith}
 use Rattle.choice.specs.Turn.{passes}
-use Rattle.choice.proofs.Turns.{least_yes, least_no, least_all}
+use Rattle.choice.proofs.Turns.{least_skip}
 use Rattle.choice.proofs.records.Records.least_time.Goals as goal
-use Rattle.choice.proofs.records.Records.least_time.Goals.{then-fits, else-fits}
+use Rattle.choice.proofs.records.Records.least_time.Goals.{then-holds+else-loop-b-test, else-holds}
 
-pub loop-b-preserved : goal.loop-b-preserved
-loop-b-preserved g c = elim c.if-fits.branch [
-  | then-fits w ↦ let e = least_yes (passes (g.C.Choice.ok c.args.choice.now)) c.self.inside.records c.loop-b.b
-      (omega arith) c.loop-b.least cc in cc (w.least-is, w.min-least.ensures)
-  | else-fits w ↦ let e = least_no (passes (g.C.Choice.ok c.args.choice.now)) c.self.inside.records c.loop-b.b
-      (omega arith) c.loop-b.least cc in cc w.least-is
-]
-
-pub returns : goal.returns
-returns g c =
-    rw (← c.self.view_is)
-    (sym (least_all (passes (g.C.Choice.ok c.args.choice.now)) c.self.inside.records c.loop-b.b c.loop-b.least
-    (omega arith)) ∙ c.loop-b.invariant)
+pub loop-block-preserved : goal.loop-block-preserved
+loop-block-preserved g c =
+    let ms = c.args.self.now in
+    let i = 16 * c.loop-block.block in
+    let next : 16 * (c.loop-block.block + 1) ≡ i + 16 = omega arith in
+    elim c.if-holds.branch [
+      | then-holds+else-loop-b-test w ↦
+          let e : w.loop-b.b ≡ i + 16 = omega arith in
+          rw (next, ← e, w.least-is) w.loop-b.invariant
+      | else-holds w ↦
+          let h : i + 16 ≤ length ms = omega (arith, c.holds.ensures.all) in
+          let skip = least_skip (passes (g.C.Choice.ok c.args.choice.now)) ms i 16 c.loop-block.least h
+          (λ k l. g.met.C.Choice.only c.args.choice.now _ _
+          (λ e. c.holds.ensures.none w.if-holds.false k l (e ∙ sym c.phase-phase.ensures))) in
+          rw (next, w.least-is, skip) c.loop-block.invariant
+    ]
