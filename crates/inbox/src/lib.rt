@@ -1,6 +1,6 @@
 //! Inboxes, first in, first out; and a worker, which holds one.
 
-#![tactic(auto, using(crate::proofs::Rings::rings))]
+#![tactic(auto)]
 
 ghost use Rattle.std.specs.Prelude.{◌≡◌, ◌<◌, [], length, slice_index};
 ghost use Rattle.inbox.specs.Queue.{entered, first, rest};
@@ -13,24 +13,34 @@ pub use worker::Worker;
 // How many buffers an inbox can hold: all there are. This crate rests on no other, so it says the number itself.
 const ROOM: usize = 256;
 
-/// A ring of at most 256 buffers: the oldest lies at the head, the others behind it.
-// An array, a head and a length, as an inbox allocates nothing; the kit's ring lies on the heap. No `Copy`: the view
-// forgets where the ring begins, and a model that does not give its fields back is not copied; `copied` does that.
-#[derive(Clone, Drop)]
+/// At most 256 buffers, the oldest in the first slot, the others behind it.
+// An array and a length, as an inbox allocates nothing. The slots that hold no buffer are 0, and the oldest buffer
+// lies in the first: so the buffers say all of an inbox, and it is `Copy`. Of a ring they would not: a list does not
+// say where it begins.
+#[derive(Clone, Copy)]
 pub struct Inbox {
     slots: [u8; ROOM],
-    head: u8,
     len: u16,
 }
 
 // Clauses see the buffers, oldest first.
 impl Model for Inbox {
-    ghost use Rattle.std.specs.Prelude.{ℕ, List};
-    ghost use Rattle.inbox.specs.Queue.{ring_of};
+    ghost use Rattle.std.specs.Prelude.{ℕ, List, length, take};
+    ghost use Rattle.inbox.specs.Slots.{slots_of, IsFilled, filled, length-filled};
 
     ghost Value = { List ℕ };
 
-    ghost view = { λ q. ring_of q.slots q.head q.len };
+    ghost view = { λ q. take q.len q.slots };
+
+    ghost invariant = { λ q. IsFilled q.slots q.len };
+
+    // the buffers say where each lies, and how many there are
+    ghost inverse = { λ bs. record { slots = slots_of bs; len = length bs } };
+
+    ghost inverse_ok = { λ q f i. record {
+      slots = filled q.slots q.len f i;
+      len = length-filled q.slots q.len f i;
+    } };
 }
 
 impl Inbox {
@@ -39,7 +49,6 @@ impl Inbox {
     {
         Inbox {
             slots: [0; ROOM],
-            head: 0,
             len: 0,
         }
     }
@@ -50,7 +59,6 @@ impl Inbox {
     {
         Inbox {
             slots: self.slots,
-            head: self.head,
             len: self.len,
         }
     }
@@ -60,8 +68,7 @@ impl Inbox {
         ensures { self.new ≡ entered buffer self.old }
     {
         if (self.len as usize) < ROOM {
-            let i = (self.head as usize + self.len as usize) % ROOM;
-            self.slots[i] = buffer;
+            self.slots[self.len as usize] = buffer;
             self.len += 1;
         }
     }
@@ -74,9 +81,10 @@ impl Inbox {
         if self.len == 0 {
             return None;
         }
-        let b = self.slots[self.head as usize];
-        self.head = ((self.head as usize + 1) % ROOM) as u8;
+        let b = self.slots[0];
         self.len -= 1;
+        self.slots.copy_within(1..=self.len as usize, 0);
+        self.slots[self.len as usize] = 0;
         Some(b)
     }
 
@@ -91,6 +99,6 @@ impl Inbox {
         requires { i < length self.now }
         ensures { result ≡ slice_index self.now i }
     {
-        self.slots[(self.head as usize + i as usize) % ROOM]
+        self.slots[i as usize]
     }
 }

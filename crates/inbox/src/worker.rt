@@ -3,7 +3,7 @@
 use crate::Inbox;
 
 /// One worker: its inbox, its floor, and what it has reported in the open round.
-#[derive(Clone, Drop)]
+#[derive(Clone, Copy)]
 pub struct Worker {
     pub inbox: Inbox,
     pub floor: u64,

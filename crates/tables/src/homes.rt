@@ -8,7 +8,7 @@ use pool::OUTSIDE_SIDE;
 use sequential::event::Event;
 
 /// The number of one of the eight workers that the tables have. A plan may have fewer: `of` asks it.
-#[derive(Clone, Copy)]
+#[derive(Clone, Copy, PartialEq, Eq, Debug)]
 pub struct WorkerId {
     pub index: u8,
     ghost low: { index < 8 },
