@@ -14,9 +14,12 @@ ghost use Rattle.std.specs.Prelude.{◌≡◌, ℕ, ◌<◌, true, List, length}
 ghost use Rattle.pool.specs.declared.place.Place.{Place as Spot};
 ghost use Rattle.pool.specs.Lanes.{Lanes, is_pair, lies, lent};
 ghost use Rattle.pool.specs.Calls.{DrawnOne, takes_in, handed_in};
+ghost use Rattle.pool.specs.Pools.{common_lanes, receiver_lanes};
 
+use crate::common::CommonPool;
 use crate::grant::Grant;
 use crate::place::is_pair;
+use crate::receiver::ReceiverPool;
 
 /// How many buffers there are.
 pub const BUFFERS: usize = 256;
@@ -77,3 +80,11 @@ pub trait Pool {
     // lanes have numbers below 256
     ghost low: { (i j : ℕ) → is_pair i j ≡ true → (lanes.draw i j < 256) × (lanes.return i j < 256) };
 }
+
+/// The common pool's lanes and the receiver pool's, which the contracts of `make`, `draw`, `hand_back` and `take_back`
+/// speak of, are those that `specs/Pools.antt` states. This function is a theorem: it does nothing, and its contract is
+/// what is proved.
+pub fn both_pools_have_the_stated_lanes()
+    ensures common { ⟦<CommonPool as Pool>⟧.lanes ≡ common_lanes }
+    ensures receiver { ⟦<ReceiverPool as Pool>⟧.lanes ≡ receiver_lanes }
+{}
