@@ -2,6 +2,7 @@
 
 #![tactic(auto)]
 
+use anyhow::anyhow;
 use model::switch::Switch;
 use sequential::event::{Line, Post, Verdict};
 use sequential::limits::Limits;
@@ -55,8 +56,8 @@ fn lines_text(alloc: Global, lines: &[Line]) -> Result<String, AllocError> {
 
 // The lines of the burst: eight cells within seven units of time, each with the hops it has left.
 fn burst(alloc: Global) -> anyhow::Result<Vec<Line>> {
-    let model = Switch::new(PORTS, SERVICE)?;
-    let limits = Limits::new(1000, 100)?;
+    let model = Switch::new(PORTS, SERVICE).map_err(|_| anyhow!("no such switch"))?;
+    let limits = Limits::new(1000, 100).map_err(|_| anyhow!("no such limits"))?;
     let posts = [
         Post::new(0, 10, 3),
         Post::new(0, 10, 0),
@@ -67,7 +68,7 @@ fn burst(alloc: Global) -> anyhow::Result<Vec<Line>> {
         Post::new(0, 15, 2),
         Post::new(1, 16, 1),
     ];
-    Ok(run(alloc, &model, &limits, &posts)?)
+    run(alloc, &model, &limits, &posts).map_err(|_| anyhow!("the run gives no lines"))
 }
 
 fn main(rt: HostRuntime) -> anyhow::Result<()> {

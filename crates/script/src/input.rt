@@ -1,6 +1,5 @@
 //! Where a program's script comes from.
 
-use anyhow::Context;
 use std::io::Read;
 use std::{env, fs};
 
@@ -8,7 +7,14 @@ use std::{env, fs};
 // No clause: what a file or standard input gives lies outside of every proof.
 pub fn read_input(rt: &HostRuntime) -> anyhow::Result<Vec<u8>> {
     match env::args(rt)?.nth(1) {
-        Some(path) => fs::read(rt, path.as_str()).context(format_args!("cannot read {path}")),
+        Some(path) => match fs::read(rt, path.as_str()) {
+            Ok(bytes) => Ok(bytes),
+            // a line of its own, with the whole path, and no `context`: that cuts a long one
+            Err(e) => {
+                eprintln!(rt; "cannot read {path}")?;
+                Err(e.into())
+            }
+        },
         None => {
             let mut bytes = Vec::new(rt.alloc());
             rt.stdin().read_to_end(&mut bytes)?;
