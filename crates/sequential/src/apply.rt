@@ -1,4 +1,4 @@
-//! Comparing keys, and applying an event to its process.
+//! Applying an event to its process.
 
 ghost use Rattle.std.specs.Prelude.{◌≡◌, ◌+◌, ◌^◌, ◌<◌, ◌≤◌, true, [], MatchResult, ◌∷◌, nat_lt};
 ghost use Rattle.model.specs.Meaning.{listed, many};

@@ -1,7 +1,6 @@
 //! Applying an event: every fault, the order of two, and the edges of the end and the cap.
 
 use crate::fixed::{faulty, wanting};
-use model::limits::LATEST;
 use model::reaction::{Few, Want};
 use model::state::State;
 use sequential::apply::apply;

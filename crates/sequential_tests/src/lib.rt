@@ -1,4 +1,4 @@
-//! Tests of the models, of applying an event, and of the sequential run.
+//! Tests of the models, of applying an event, of the sequential run, and of writing figures.
 
 #![tactic(auto)]
 
@@ -10,3 +10,5 @@ mod fixed;
 mod models;
 #[cfg(test)]
 mod running;
+#[cfg(test)]
+mod writing;

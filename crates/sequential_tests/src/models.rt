@@ -8,6 +8,13 @@ use model::state::State;
 use model::switch::Switch;
 use std::test::Fail;
 
+const ZEROS: State = State {
+    w0: 0,
+    w1: 0,
+    w2: 0,
+    w3: 0,
+};
+
 const LAST: u64 = 0x100_0000_0000;
 
 #[test]
@@ -53,16 +60,17 @@ fn a_port_serves_and_forwards(rt: HostRuntime) -> Result<(), Fail> {
 #[test]
 fn too_many_hops_come_before_too_late(rt: HostRuntime) -> Result<(), Fail> {
     let m = Switch::new(3, 5)?;
-    assert_eq!(rt; m.react(0, &State::ZERO, LAST, 256), Reaction::Fault(2));
-    assert_eq!(rt; m.react(0, &State::ZERO, LAST - 4, 255), Reaction::Fault(1));
-    assert_eq!(rt; m.react(0, &State::ZERO, u64::MAX, 0), Reaction::Fault(1));
+    assert_eq!(rt; m.react(0, &ZEROS, LAST, 256), Reaction::Fault(2));
+    assert_eq!(rt; m.react(0, &ZEROS, LAST - 4, 255), Reaction::Fault(1));
+    assert_eq!(rt; m.react(0, &ZEROS, u64::MAX, 0), Reaction::Fault(1));
     let last = State {
         w0: LAST,
         w1: 1,
-        ..State::ZERO
+        w2: 0,
+        w3: 0,
     };
     assert_eq!(rt;
-        m.react(0, &State::ZERO, LAST - 5, 0),
+        m.react(0, &ZEROS, LAST - 5, 0),
         Reaction::Next(last, Few::Nothing)
     );
     Ok(())
@@ -95,22 +103,20 @@ fn switch_words_wrap(rt: HostRuntime) -> Result<(), Fail> {
 #[test]
 fn process_numbers_count_modulo_the_size(rt: HostRuntime) -> Result<(), Fail> {
     let m = Switch::new(3, 5)?;
-    assert_eq!(rt;
-        m.react(2, &State::ZERO, 0, 1),
-        m.react(5, &State::ZERO, 0, 1)
-    );
+    assert_eq!(rt; m.react(2, &ZEROS, 0, 1), m.react(5, &ZEROS, 0, 1));
     let wraps = Want {
         receiver: 0,
         delay: 5,
         payload: 0,
     };
     assert_eq!(rt;
-        m.react(2, &State::ZERO, 0, 1),
+        m.react(2, &ZEROS, 0, 1),
         Reaction::Next(
             State {
                 w0: 5,
                 w1: 1,
-                ..State::ZERO
+                w2: 0,
+                w3: 0,
             },
             Few::One(wraps),
         )
@@ -120,7 +126,9 @@ fn process_numbers_count_modulo_the_size(rt: HostRuntime) -> Result<(), Fail> {
         p.initial(2),
         State {
             w0: 12,
-            ..State::ZERO
+            w1: 0,
+            w2: 0,
+            w3: 0,
         }
     );
     assert_eq!(rt; p.initial(3), p.initial(0));
@@ -130,7 +138,7 @@ fn process_numbers_count_modulo_the_size(rt: HostRuntime) -> Result<(), Fail> {
 #[test]
 fn phold_words_wrap(rt: HostRuntime) -> Result<(), Fail> {
     let p = Phold::new(4, u64::MAX)?;
-    assert_eq!(rt; p.initial(1), State::ZERO);
+    assert_eq!(rt; p.initial(1), ZEROS);
     let full = State {
         w0: u64::MAX,
         w1: u64::MAX,

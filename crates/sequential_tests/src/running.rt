@@ -32,7 +32,9 @@ fn cells_are_served_in_key_order(rt: HostRuntime) -> Result<(), Fail> {
     let sent_on = Event {
         time: 13,
         process: 1,
-        ..Event::NONE
+        sender: 0,
+        number: 0,
+        payload: 0,
     };
     assert_eq!(rt; lines[1].event, sent_on);
     let last = Line {
